@@ -1,0 +1,4 @@
+pub mod Entries
+pub mod Atoms
+pub mod Drafts
+pub mod Tables
