@@ -5,7 +5,7 @@ use lib.ListN.{length, getD, set, replicate}
 use mathlib.Core.Bool.{Bool, true, false, _&&_, _||_}
 use mathlib.Core.List.{List}
 use mathlib.Core.Logic.{⊎-elim}
-use mathlib.Core.Path.{_≡_, refl, sym, ap, subst, _∙_}
+use mathlib.Core.Path.{_≡_, refl, sym, ap, _∙_}
 use native.Mathlib.Omega.{arith}
 use Rattle.std.proofs.shelf.Lists.{getD-past, getD-replicate, length-replicate, length-set, getD-set-same, getD-set-other}
 use Rattle.std.proofs.shelf.Tests.{ltb-true, lt-ltb, le-ltb, eqb-true, and-parts, or-cases, both-ways, cases-lt, cases-eq, eq-eqb, ne-eqb, and-right}
@@ -66,17 +66,17 @@ joined-at true a e v b h = h refl
 joined-at false a true v b h = refl
 joined-at false a false v b h = refl
 
-module _ (sets marked : List GuardSet) (n g : ℕ) (vs : ℕ → Bool) (mark : Marked sets g vs marked) where
-  pub marked-joins : Joins (table-meaning sets n) g vs (table-meaning marked (max n (g + 1)))
+module _ (sets marked : List GuardSet) (n g k : ℕ) (vs : ℕ → Bool) (mark : Marked sets g vs marked) (most : k ≡ max n (g + 1)) where
+  pub marked-joins : Joins (table-meaning sets n) g vs (table-meaning marked k)
   marked-joins = record {
     label = λ x. ap (ltb x) (mark .long);
-    guards = refl;
+    guards = most;
     holds = λ h x.
         ap (λ k. ltb x k && has (set-at marked x) h) (mark .long)
         ∙ joined-at (ltb x (length sets)) (has (set-at sets x) h) (eqb h g) (vs x) (has (set-at marked x) h) (λ e. mark .at x h (ltb-true x (length sets) e));
   }
 
-  pub marked-known : Known sets n → Known marked (max n (g + 1))
+  pub marked-known : Known sets n → Known marked k
   marked-known known x h up e =
       ⊎-elim
       (λ under.
@@ -107,10 +107,10 @@ one-marked sets t g s under small put = record {
 
 module _ (sets : List GuardSet) (n t g m : ℕ) (s : GuardSet) (under : t < length sets) (small : g < 32) (put : (h : ℕ) → has (s .0) h ≡ (has (set-at sets t) h || (eqb h g && ltb g 32))) (most : m ≡ max n (g + 1)) where
   pub one-joins : Joins (table-meaning sets n) g (λ x. eqb x t) (table-meaning (set sets t s) m)
-  one-joins = subst (λ k. Joins (table-meaning sets n) g (λ x. eqb x t) (table-meaning (set sets t s) k)) (sym most) (marked-joins sets (set sets t s) n g (λ x. eqb x t) (one-marked sets t g s under small put))
+  one-joins = marked-joins sets (set sets t s) n g m (λ x. eqb x t) (one-marked sets t g s under small put) most
 
   pub one-known : Known sets n → Known (set sets t s) m
-  one-known known = subst (Known (set sets t s)) (sym most) (marked-known sets (set sets t s) n g (λ x. eqb x t) (one-marked sets t g s under small put) known)
+  one-known = marked-known sets (set sets t s) n g m (λ x. eqb x t) (one-marked sets t g s under small put) most
 
 module _ (sets : List GuardSet) (n g x : ℕ) where
   pub table-holds : x < length sets → has (set-at sets x) g ≡ table-meaning sets n .holds g x
@@ -135,4 +135,55 @@ fresh-table n = record {
   label = λ x. ap (ltb x) (length-replicate n empty);
   guards = refl;
   holds = λ g x. and-right (ltb x (length (replicate n empty))) (has (set-at (replicate n empty) x) g) (none-at n x g);
+}
+
+-- guard g is joined at the labels of vs below i, and nothing is changed from i on
+pub record MarkedTo (sets : List GuardSet) (g : ℕ) (vs : ℕ → Bool) (i : ℕ) (marked : List GuardSet) : Type 0 where
+  pub long : length marked ≡ length sets
+  pub done : (x h : ℕ) → x < i → x < length sets → has (set-at marked x) h ≡ (has (set-at sets x) h || (eqb h g && vs x))
+  pub rest : (x : ℕ) → i ≤ x → getD marked x empty ≡ getD sets x empty
+
+pub none-marked : (sets : List GuardSet) (g : ℕ) (vs : ℕ → Bool) → MarkedTo sets g vs 0 sets
+none-marked sets g vs = record { long = refl; done = λ x h l. absurd (omega arith); rest = λ x h. refl }
+
+module _ {sets : List GuardSet} {g : ℕ} {vs : ℕ → Bool} {i : ℕ} {marked : List GuardSet} (m : MarkedTo sets g vs i marked) where
+  -- one label more, which vs does not have
+  pub one-passed : vs i ≡ false → MarkedTo sets g vs (i + 1) marked
+  one-passed off = record {
+    long = m .long;
+    done = λ x h l u.
+        ⊎-elim
+        (λ same.
+        ap (λ (s : GuardSet). has (s .0) h) (m .rest x (omega arith))
+        ∙ sym (ap (λ b. has (set-at sets x) h || b) (and-right (eqb h g) (vs x) (ap vs same ∙ off)) ∙ or-none (has (set-at sets x) h)))
+        (λ other. m .done x h (omega arith) u)
+        (cases-eq x i);
+    rest = λ x h. m .rest x (omega arith);
+  }
+
+  -- one label more, which vs has
+  pub one-put : (s : GuardSet) → vs i ≡ true → g < 32 → i < length sets → ((h : ℕ) → has (s .0) h ≡ (has (set-at marked i) h || (eqb h g && ltb g 32))) → MarkedTo sets g vs (i + 1) (set marked i s)
+  one-put s on small under put =
+      let long = m .long in
+      record {
+        long = length-set marked i s ∙ m .long;
+        done = λ x h l u.
+            ⊎-elim
+            (λ same.
+            ap (λ k. has (set-at (set marked i s) k) h) same ∙ ap (λ (t : GuardSet). has (t .0) h) (getD-set-same marked i s empty (omega arith)) ∙ put h
+            ∙ ap (λ (t : GuardSet). has (t .0) h || (eqb h g && ltb g 32)) (m .rest i (omega arith))
+            ∙ sym (ap (λ k. has (set-at sets k) h || (eqb h g && vs k)) same ∙ ap (λ b. has (set-at sets i) h || (eqb h g && b)) (on ∙ sym (lt-ltb g 32 small))))
+            (λ other. ap (λ (t : GuardSet). has (t .0) h) (getD-set-other marked i x s empty other) ∙ m .done x h (omega arith) u)
+            (cases-eq x i);
+        rest = λ x h. getD-set-other marked i x s empty (omega arith) ∙ m .rest x (omega arith);
+      }
+
+  pub all-marked : length sets ≤ i → Marked sets g vs marked
+  all-marked end = record { long = m .long; at = λ x h l. m .done x h (omega arith) l }
+
+pub joins-same : {m n : Meaning} {g : ℕ} {vs ws : ℕ → Bool} → ((x : ℕ) → vs x ≡ ws x) → Joins m g vs n → Joins m g ws n
+joins-same {m} {g = g} same j = record {
+  label = j .label;
+  guards = j .guards;
+  holds = λ h x. j .holds h x ∙ ap (λ b. m .holds h x || (eqb h g && (m .label x && b))) (same x);
 }

@@ -2,3 +2,5 @@ pub mod Sets
 pub mod Meaning
 pub mod Adding
 pub mod Tables
+pub mod Patterns
+pub mod Masks
