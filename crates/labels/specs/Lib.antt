@@ -4,3 +4,5 @@ pub mod Adding
 pub mod Tables
 pub mod Patterns
 pub mod Masks
+pub mod Ranges
+pub mod Edges
