@@ -4,6 +4,8 @@ use lib.ListN.{getD}
 use mathlib.Core.Bool.{true}
 use mathlib.Core.List.{List}
 use mathlib.Core.Path.{_≡_}
+use Rattle.std.specs.declared.option.Option.{Option}
+use Rattle.std.specs.declared.option.Option.the-variants.{Some, None}
 use Rattle.labels.specs.Sets.{has}
 use Rattle.atoms.specs.declared.atom.Atom.{Atom}
 
@@ -34,3 +36,8 @@ pub record Unwritten (xs : List Atom) (n g : ℕ) : Type 0 where
   pub guards : g ≡ 0
   pub labels : (k : ℕ) → label-at xs k ≡ 0
   pub sets : (k : ℕ) → set-at xs k ≡ 0
+
+-- the k-th of n atoms, or none past the last
+abbrev pub AtomAt : List Atom → ℕ → ℕ → Option Atom → Type 0
+AtomAt xs n k None = n ≤ k
+AtomAt xs n k (Some a) = (k < n) × (a ≡ atom-at xs k)

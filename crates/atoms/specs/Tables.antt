@@ -1,14 +1,11 @@
 -- The table of a guard book's atoms.
-use Prim.Native.Nat.{ℕ, _<_, _≤_}
+use Prim.Native.Nat.{ℕ, _≤_}
 use mathlib.Core.Path.{_≡_}
 use Rattle.std.specs.declared.result.Result.{Result}
 use Rattle.std.specs.declared.result.Result.the-variants.{Ok, Err}
-use Rattle.std.specs.declared.option.Option.{Option}
-use Rattle.std.specs.declared.option.Option.the-variants.{Some, None}
 use Rattle.labels.specs.Meaning.{Meaning}
 use Rattle.atoms.specs.Atoms.{Lists, MoreThan}
-use Rattle.atoms.specs.Entries.{atom-at, label-at, set-at}
-use Rattle.atoms.specs.declared.atom.Atom.{Atom}
+use Rattle.atoms.specs.Entries.{label-at, set-at}
 use Rattle.atoms.specs.declared.fault.TooManyAtoms.{TooManyAtoms}
 use Rattle.atoms.specs.declared.table.AtomTable.{AtomTable}
 
@@ -27,8 +24,3 @@ Reads m t (Err fault) u = MoreThan 16 m × (u ≡ t)
 -- the number of the refusal
 abbrev pub number-of : TooManyAtoms → ℕ
 number-of fault = 20
-
--- the atom at place k, or none past the last
-abbrev pub AtomAt : AtomTable → ℕ → Option Atom → Type 0
-AtomAt t k None = t .count ≤ k
-AtomAt t k (Some a) = (k < t .count) × (a ≡ atom-at (t .atoms) k)

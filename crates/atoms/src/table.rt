@@ -4,7 +4,7 @@ ghost use lib.ListN.{length};
 ghost use mathlib.Core.Bool.{true};
 ghost use mathlib.Core.Path.{_≡_};
 ghost use Rattle.labels.specs.Sets.{has};
-ghost use Rattle.atoms.specs.Entries.{label-at, set-at, Sound, Unwritten};
+ghost use Rattle.atoms.specs.Entries.{label-at, set-at, Sound, Unwritten, AtomAt};
 use crate::atom::Atom;
 use crate::draft::Draft;
 use labels::set::GuardSet;
@@ -71,5 +71,16 @@ impl AtomTable {
         ensures { λ r. ⌜ r ≡ now (self .entry) .guards ⌝ }
     {
         self.guards
+    }
+
+    // The atom at place k; none past the last.
+    pub fn atom(&self, k: usize) -> Option<Atom>
+        ensures { λ r. ⌜ AtomAt (now (self .entry) .atoms) (now (self .entry) .count) k r ⌝ }
+    {
+        if k < self.count {
+            Some(self.atoms[k])
+        } else {
+            None
+        }
     }
 }
