@@ -1,0 +1,4 @@
+pub mod Cutting
+pub mod Taking
+pub mod Writing
+pub mod Reading
