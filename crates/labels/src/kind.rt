@@ -1,7 +1,7 @@
 // What every label kind answers.
 ghost use mathlib.Core.Path.{_≡_};
 ghost use Rattle.labels.specs.Meaning.{Lawful, IsLeast, IsLargest};
-ghost use Rattle.labels.specs.Adding.{Book, Adds};
+ghost use Rattle.labels.specs.Adding.{Book, Adds, number-of};
 use crate::set::GuardSet;
 
 // Why a value is not added.
@@ -15,6 +15,20 @@ pub enum AddFault {
     Full,
     // the allocator gave no memory
     Memory,
+}
+
+impl AddFault {
+    // The number of the refusal; want of memory has none.
+    pub fn number(self) -> Option<u32>
+        ensures { λ r. ⌜ r ≡ number-of self ⌝ }
+    {
+        match self {
+            AddFault::Guard => Some(10),
+            AddFault::Value => Some(11),
+            AddFault::Full => Some(12),
+            AddFault::Memory => None,
+        }
+    }
 }
 
 // A set of labels with guards 0 to n - 1, each of which holds of some of the labels.
