@@ -20,6 +20,15 @@ pub record Book (V : Type 0) : Type 0 where
   pub labels : V → ℕ → Bool
   -- whether a guard takes no further value, once these guards have been given one value more each
   pub full : List ℕ → ℕ → Bool
+  -- whether there is memory at hand for one value more
+  pub spare : Bool
+
+-- nothing that a caller can learn has changed
+pub record Same {V : Type 0} (b c : Book V) : Type 0 where
+  pub meaning : c .meaning ≡ b .meaning
+  pub formed : c .formed ≡ b .formed
+  pub labels : c .labels ≡ b .labels
+  pub full : c .full ≡ b .full
 
 -- n is m with the labels of vs joined to guard g
 pub record Joins (m : Meaning) (g : ℕ) (vs : ℕ → Bool) (n : Meaning) : Type 0 where
@@ -33,13 +42,13 @@ pub record Added {V : Type 0} (b : Book V) (g : ℕ) (v : V) (c : Book V) : Type
   pub formed : c .formed ≡ b .formed
   pub labels : c .labels ≡ b .labels
 
--- the book b before, and c after: the checks in their order
+-- the book b before, and c after: the checks in their order. Memory is wanting only where none was at hand.
 abbrev pub Adds : {V : Type 0} → Book V → ℕ → V → Result (Unit {0}) AddFault → Book V → Type 0
 Adds b g v (Ok done) c = (g ≤ 31) × (b .formed v ≡ true) × (b .full [] g ≡ false) × Added b g v c
-Adds b g v (Err Guard) c = (31 < g) × (c ≡ b)
-Adds b g v (Err Value) c = (g ≤ 31) × (b .formed v ≡ false) × (c ≡ b)
-Adds b g v (Err Full) c = (g ≤ 31) × (b .formed v ≡ true) × (b .full [] g ≡ true) × (c ≡ b)
-Adds b g v (Err Memory) c = (g ≤ 31) × (b .formed v ≡ true) × (b .full [] g ≡ false) × (c ≡ b)
+Adds b g v (Err Guard) c = (31 < g) × Same b c
+Adds b g v (Err Value) c = (g ≤ 31) × (b .formed v ≡ false) × Same b c
+Adds b g v (Err Full) c = (g ≤ 31) × (b .formed v ≡ true) × (b .full [] g ≡ true) × Same b c
+Adds b g v (Err Memory) c = (g ≤ 31) × (b .formed v ≡ true) × (b .full [] g ≡ false) × (b .spare ≡ false) × Same b c
 
 -- the number of each refusal; want of memory has none
 abbrev pub number-of : AddFault → Option ℕ

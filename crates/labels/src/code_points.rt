@@ -1,10 +1,10 @@
 // Code points: labels 0 to 10FFFF hex without the surrogates D800 to DFFF; a guard is given by ranges.
 ghost use Prim.Native.Nat.{ℕ, _+_, _<_, _≤_};
-ghost use lib.Dec.{leb};
+ghost use lib.Dec.{leb, ltb};
 ghost use lib.ListN.{length};
 ghost use mathlib.Core.Path.{_≡_};
 ghost use Rattle.std.specs.Orderings.{Decides};
-ghost use Rattle.std.specs.Of.Vec.{vec-items, vec-len};
+ghost use Rattle.std.specs.Of.Vec.{vec-cap, vec-items, vec-len};
 ghost use Rattle.labels.specs.Edges.{AtMost, Tried};
 ghost use Rattle.labels.specs.Meaning.{Fresh, IsLeast};
 ghost use Rattle.labels.specs.Ranges.{Told, code-label, code-meaning, given-at, in-range, range-formed};
@@ -49,7 +49,7 @@ impl CodePoints {
 pub impl LabelKind for CodePoints as CodePointsKind {
     type Value = Range;
 
-    ghost book = { λ k. record { meaning = code-meaning (vec-items (k .ranges)) (k .guards); formed = range-formed; labels = in-range; full = λ gs _. leb 64 (vec-len (k .ranges) + length gs) } };
+    ghost book = { λ k. record { meaning = code-meaning (vec-items (k .ranges)) (k .guards); formed = range-formed; labels = in-range; full = λ gs _. leb 64 (vec-len (k .ranges) + length gs); spare = ltb (vec-len (k .ranges)) (vec-cap (k .ranges)) } };
 
     fn lawful(&self) {}
 

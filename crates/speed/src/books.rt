@@ -1,6 +1,8 @@
 // Guard books of 32 guards with two values each.
 use labels::code_points::CodePoints;
+use labels::code_points::CodePointsKind;
 use labels::events::EventWords;
+use labels::events::EventWordsKind;
 use labels::kind::LabelKind;
 use labels::range::Range;
 use std::alloc::AllocError;

@@ -7,6 +7,8 @@ use atoms::table::AtomTable;
 use books::random_words;
 use books::split_points;
 use books::split_words;
+use labels::code_points::CodePointsKind;
+use labels::events::EventWordsKind;
 use labels::kind::LabelKind;
 use std::error::AnyError;
 use std::io;
