@@ -4,7 +4,6 @@ use mathlib.Core.Bool.{Bool, true, false, cond}
 use mathlib.Core.List.{List, [], _∷_, _++_, append-assoc, append-nil}
 use mathlib.Core.Path.{_≡_, refl, sym, ap, _∙_}
 use native.Mathlib.Numerals.{add-one}
-use native.Mathlib.Omega.{arith}
 use Rattle.std.proofs.shelf.Tests.{cond-true, cond-false}
 use Rattle.std.specs.Written.{decimal}
 use Rattle.labels.specs.Sets.{has}
@@ -47,24 +46,6 @@ module _ {s g : ℕ} {out : List ℕ} {some : Bool} (l : Listed s g out some) wh
         text = put ∙ ap (λ b. cond b (out ++ 44 ∷ []) out ++ decimal g) (l .full) ∙ ap (λ t. cond (filled (members g s)) (t ++ 44 ∷ []) t ++ decimal g) (l .text) ∙ sym (ap commas more ∙ commas-push (members g s) g);
         full = sym (ap filled more ∙ filled-push (members g s) g);
       }
-
-pub none-listed : (s : ℕ) (out : List ℕ) → out ≡ [] → Listed s 0 out false
-none-listed s out e = record { text = e; full = refl }
-
--- the whole list, or a dash
-list-filled : (gs : List ℕ) (out : List ℕ) → out ≡ commas gs → true ≡ filled gs → out ≡ list-text gs
-list-filled [] out e h = let z : _≡_ {A = ℕ} 0 1 = cc in absurd (omega arith)
-list-filled (g ∷ gs) out e h = e
-
-list-none : (gs : List ℕ) (out : List ℕ) → out ≡ commas gs → false ≡ filled gs → out ++ 45 ∷ [] ≡ list-text gs
-list-none [] out e h = ap (λ l. l ++ 45 ∷ []) e
-list-none (g ∷ gs) out e h = let z : _≡_ {A = ℕ} 0 1 = cc in absurd (omega arith)
-
-pub all-listed : (s g : ℕ) (out : List ℕ) → Listed s g out true → out ≡ list-text (members g s)
-all-listed s g out l = list-filled (members g s) out (l .text) (l .full)
-
-pub dash-listed : (s g : ℕ) (out : List ℕ) → Listed s g out false → out ++ 45 ∷ [] ≡ list-text (members g s)
-dash-listed s g out l = list-none (members g s) out (l .text) (l .full)
 
 pub listed-at : {s g : ℕ} {out : List ℕ} {some : Bool} (now : List ℕ) (full : Bool) → now ≡ out → full ≡ some → Listed s g out some → Listed s g now full
 listed-at now full e f l = record { text = e ∙ l .text; full = f ∙ l .full }

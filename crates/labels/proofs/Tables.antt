@@ -1,5 +1,5 @@
 -- A table of guard sets as a kind's meaning.
-use Prim.Native.Nat.{ℕ, _+_, _^_, _<_, _≤_, max}
+use Prim.Native.Nat.{ℕ, _+_, _<_, _≤_, max}
 use lib.Dec.{eqb, ltb}
 use lib.ListN.{length, getD, set, replicate}
 use mathlib.Core.Bool.{Bool, true, false, _&&_, _||_}
@@ -8,12 +8,12 @@ use mathlib.Core.Logic.{⊎-elim}
 use mathlib.Core.Path.{_≡_, refl, sym, ap, _∙_}
 use native.Mathlib.Omega.{arith}
 use Rattle.std.proofs.shelf.Lists.{getD-past, getD-replicate, length-replicate, length-set, getD-set-same, getD-set-other}
-use Rattle.std.proofs.shelf.Tests.{ltb-true, lt-ltb, le-ltb, eqb-true, and-parts, or-cases, both-ways, cases-lt, cases-eq, eq-eqb, ne-eqb, and-right}
+use Rattle.std.proofs.shelf.Tests.{ltb-true, lt-ltb, eqb-true, and-parts, or-cases, both-ways, cases-lt, cases-eq, eq-eqb, ne-eqb, and-right}
 use Rattle.std.specs.declared.option.Option.{Option}
 use Rattle.std.specs.declared.option.Option.the-variants.{Some, None}
 use Rattle.labels.proofs.Bits.{has-none}
 use Rattle.labels.specs.Adding.{Joins}
-use Rattle.labels.specs.Meaning.{Meaning, Lawful, Fits, IsLeast, Fresh}
+use Rattle.labels.specs.Meaning.{Meaning, Fits, IsLeast, Fresh}
 use Rattle.labels.specs.Sets.{has, Between}
 use Rattle.labels.specs.Tables.{empty, set-at, table-meaning, FirstFit, Marked}
 use Rattle.labels.specs.declared.set.GuardSet.{GuardSet}
@@ -21,16 +21,6 @@ use Rattle.labels.specs.declared.set.GuardSet.{GuardSet}
 -- only guards below n stand in the sets
 abbrev pub Known : List GuardSet → ℕ → Type 0
 Known sets n = (x g : ℕ) → n ≤ g → has (set-at sets x) g ≡ true → ⊥
-
-pub table-lawful : (sets : List GuardSet) (n : ℕ) → 0 < length sets → length sets ≤ 2 ^ 64 → n ≤ 32 → Known sets n → Lawful (table-meaning sets n)
-table-lawful sets n some long few known = record {
-  below = λ x e. let under = ltb-true x (length sets) e in omega arith;
-  some = (0, lt-ltb 0 (length sets) some);
-  few = few;
-  inside = λ g x e.
-      let parts = and-parts (ltb x (length sets)) (has (set-at sets x) g) e in
-      (⊎-elim (λ h. h) (λ h. absurd (known x g h (parts .1))) (cases-lt g n), parts .0);
-}
 
 past-empty : (sets : List GuardSet) (x g : ℕ) → length sets ≤ x → has (set-at sets x) g ≡ false
 past-empty sets x g past = ap (λ (s : GuardSet). has (s .0) g) (getD-past sets x empty past) ∙ has-none g
@@ -111,13 +101,6 @@ module _ (sets : List GuardSet) (n t g m : ℕ) (s : GuardSet) (under : t < leng
 
   pub one-known : Known sets n → Known (set sets t s) m
   one-known = marked-known sets (set sets t s) n g m (λ x. eqb x t) (one-marked sets t g s under small put) most
-
-module _ (sets : List GuardSet) (n g x : ℕ) where
-  pub table-holds : x < length sets → has (set-at sets x) g ≡ table-meaning sets n .holds g x
-  table-holds under = sym (ap (λ b. b && has (set-at sets x) g) (lt-ltb x (length sets) under))
-
-  pub table-past : length sets ≤ x → false ≡ table-meaning sets n .holds g x
-  table-past past = sym (ap (λ b. b && has (set-at sets x) g) (le-ltb x (length sets) past))
 
 -- no guard yet
 none-at : (n x g : ℕ) → has (set-at (replicate n empty) x) g ≡ false

@@ -24,9 +24,6 @@ pub record Sofar (text rest : List ℕ) (n : ℕ) (tokens : List Token) : Type 0
   pub goes-on : (ss : List Sign) (b : Option ℕ) → Scanned n rest ss b → Scanned 1 text (map signOf tokens ++ ss) b
   pub small : n + length rest ≤ 1 + length text
 
-pub sofar-none : (text : List ℕ) (tokens : List Token) → tokens ≡ [] → Sofar text text 1 tokens
-sofar-none text tokens none = record { goes-on = λ ss b s. subst (λ (l : List Token). Scanned 1 text (map signOf l ++ ss) b) (sym none) s; small = omega arith }
-
 -- one more line keeps it
 pub one-line : (text rest : List ℕ) (n : ℕ) (before since : List Token) (after : List ℕ) → Sofar text rest n before → LineAdded n rest before since after → Sofar text after (n + 1) since
 one-line text rest n before since after h l = record {
