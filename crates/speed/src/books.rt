@@ -10,7 +10,7 @@ use std::alloc::Global;
 use std::error::AnyError;
 
 // Patterns of random characters.
-pub fn random_words(heap: Global) -> Result<EventWords, AnyError> {
+pub(crate) fn random_words(heap: Global) -> Result<EventWords, AnyError> {
     let mut seed = 1;
     let mut words = EventWords::new(heap)?;
     for i in 0..64u32 {
@@ -48,7 +48,7 @@ const LOW_BITS: [&str; 4] = [
 ];
 
 // Guards 0 to 3 make 16 atoms; each later guard is one of these again, and is asked about in all 16.
-pub fn split_words(heap: Global) -> Result<EventWords, AnyError> {
+pub(crate) fn split_words(heap: Global) -> Result<EventWords, AnyError> {
     let last = String::from_str(heap, "1111111111111111")?;
     let mut words = EventWords::new(heap)?;
     for guard in 0..32u32 {
@@ -76,7 +76,7 @@ const STEPS: [[(u32, u32); 2]; 4] = [
 ];
 
 // Guards 0 to 3 make 16 atoms; each later guard is one of these again, and is asked about in all 16.
-pub fn split_points(heap: Global) -> Result<CodePoints, AnyError> {
+pub(crate) fn split_points(heap: Global) -> Result<CodePoints, AnyError> {
     let mut points = CodePoints::new(heap)?;
     for guard in 0..32u32 {
         let [first, second] = STEPS[guard as usize % 4];
