@@ -1,4 +1,6 @@
 // Texts and their answers.
+#![tactic(auto)]
+
 #[cfg(test)]
 mod tests {
     use blocks::answer::answer;

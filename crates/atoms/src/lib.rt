@@ -1,4 +1,6 @@
 // The atoms of a guard book.
+#![tactic(auto)]
+
 pub mod atom;
 mod draft;
 pub mod fault;

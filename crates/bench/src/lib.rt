@@ -1,4 +1,6 @@
 // A bench: shelves of schemas in memory that is lent.
+#![tactic(auto)]
+
 pub mod bench;
 pub mod children;
 mod evaluate;

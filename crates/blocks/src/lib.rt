@@ -1,4 +1,6 @@
 // The blocks of a text: the guard book that it gives, and what is printed of it.
+#![tactic(auto)]
+
 pub mod answer;
 mod cuts;
 mod guards;

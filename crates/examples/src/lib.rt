@@ -1,4 +1,6 @@
 // Worked examples, as one statement in the words of the library's contracts.
+#![tactic(auto)]
+
 ghost use Rattle.std.specs.List.{AllByRecursion as All};
 ghost use Rattle.examples.specs.Examples.{Holds, examples};
 

@@ -1,4 +1,6 @@
 // Things numbered as they are found, by rounds.
+#![tactic(auto)]
+
 pub mod entry;
 pub mod full;
 pub mod numbering;

@@ -1,4 +1,6 @@
 // Examples of guard books: what they take and refuse, the labels they find, and their atoms.
+#![tactic(auto)]
+
 #[cfg(test)]
 mod code_points;
 #[cfg(test)]

@@ -1,4 +1,6 @@
 // Label kinds: which numbers are labels, and which guards hold of them.
+#![tactic(auto)]
+
 pub mod code_points;
 pub mod events;
 pub mod kind;

@@ -1,5 +1,7 @@
 // The states of a tree automaton put into classes: those of different classes are told apart, and nothing tells two states of
 // one class apart.
+#![tactic(auto)]
+
 pub mod automaton;
 mod classes;
 pub mod fault;

@@ -1,4 +1,6 @@
 // From steps to the table of the normal form.
+#![tactic(auto)]
+
 pub mod class;
 pub mod listed;
 pub mod order;

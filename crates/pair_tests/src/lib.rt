@@ -1,4 +1,6 @@
 // Examples of pairs: what they take and refuse, the labels they find, and their atoms.
+#![tactic(auto)]
+
 #[cfg(test)]
 mod adding;
 #[cfg(test)]

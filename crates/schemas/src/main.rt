@@ -1,4 +1,6 @@
 // Reads a guard book from standard input and prints its atoms.
+#![tactic(auto)]
+
 use blocks::answer::answer;
 use std::io;
 use std::io::Read;

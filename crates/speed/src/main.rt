@@ -1,4 +1,6 @@
 // Measures how long the atoms of large guard books take, and writes a line for each book to standard error.
+#![tactic(auto)]
+
 mod books;
 
 use atoms::fault::TooManyAtoms;
