@@ -1,7 +1,7 @@
 -- Laws of `has`: the bits of a number as a set.
-use Rattle.std.proofs.Common.{◌≡◌, ℕ, zero, suc, ◌+◌, ◌-◌, ◌*◌, ◌/◌, ◌%◌, ◌^◌, ◌<◌, ◌≤◌, Bool, true, false, ◌&&◌, ◌||◌, eqb, ltb, Decides, sym, refl, ap, ◌∙◌, subst, ⊎_elim, pow-suc, add-one, arith, pow_mono}
+use Rattle.std.proofs.Common.{◌≡◌, ℕ, zero, suc, ◌+◌, ◌-◌, ◌*◌, ◌/◌, ◌%◌, ◌^◌, ◌<◌, ◌≤◌, Bool, true, false, ◌&&◌, ◌||◌, eqb, ltb, Decides, sym, refl, ap, ◌∙◌, ⊎_elim, pow-suc, arith, pow_mono}
 use lib.Arith.{bin_ind}
-use lib.Bits.{bit_and, bit_or, and_shr, or_shr, and_mod, or_mod, or_lt}
+use lib.Bits.{bit_and, bit_or, and_shr, or_shr, and_mod, or_mod}
 use native.Mathlib.Nat.{div-eq_of_lt, div_self}
 use Rattle.std.proofs.lemmas.Nat.{shr-shr, shl-shr, mod_below, pow_pos, pow-add, pow_below, one_shl, and_mask}
 use Rattle.std.proofs.lemmas.Bool.{eqb-true, eqb-false, eq-eqb, ne_eqb, lt-ltb, cases_order, and_parts, both_ways}

@@ -1,7 +1,7 @@
 -- Code points as a kind: its laws, the search for its least label, and one range more.
-use Rattle.std.proofs.Common.{◌≡◌, ℕ, suc, ◌+◌, ◌^◌, ◌<◌, ◌≤◌, max, Bool, true, false, ◌&&◌, ◌||◌, eqb, leb, ◌⊎◌, List, [], ◌∷◌, ◌++◌, length, get_or, Some, None, Option, sym, refl, ap, ◌∙◌, subst, inl, inr, ⊎_elim, arith}
+use Rattle.std.proofs.Common.{◌≡◌, ℕ, suc, ◌+◌, ◌<◌, ◌≤◌, max, Bool, true, false, ◌&&◌, ◌||◌, eqb, leb, List, [], ◌∷◌, ◌++◌, length, Some, None, Option, sym, refl, ap, ◌∙◌, subst, ⊎_elim, arith}
 use Rattle.std.proofs.lemmas.List.{get_or_push, get_or_append_left, length_push}
-use Rattle.std.proofs.lemmas.Bool.{both_ways, cases_lt, cases_eq, leb-true, and_parts, and_from, and_right, or_cases, eqb-true}
+use Rattle.std.proofs.lemmas.Bool.{both_ways, cases_lt, leb-true, and_parts, or_cases, eqb-true}
 use Rattle.labels.specs.Adding.{Joins}
 use Rattle.labels.specs.Edges.{AtMost, Fitting, Tried}
 use Rattle.labels.specs.Meaning.{Meaning, Lawful, Fits, IsLeast}

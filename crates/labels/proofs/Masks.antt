@@ -1,5 +1,5 @@
 -- The care mask and the value of a pattern, character by character.
-use Rattle.std.proofs.Common.{◌≡◌, ℕ, zero, suc, ◌+◌, ◌*◌, ◌/◌, ◌%◌, ◌^◌, ◌<◌, ◌≤◌, Bool, true, false, cond, ◌&&◌, ◌||◌, eqb, List, [], ◌∷◌, ◌++◌, length, get_or, take, drop, Some, sym, refl, ap, ◌∙◌, subst, ⊎_elim, mod-eq_of_lt, mul_assoc, pow-suc, add-one, arith, take-append-drop, pow_mono}
+use Rattle.std.proofs.Common.{◌≡◌, ℕ, zero, suc, ◌+◌, ◌*◌, ◌/◌, ◌%◌, ◌^◌, ◌<◌, ◌≤◌, Bool, true, false, ◌&&◌, ◌||◌, eqb, List, [], ◌∷◌, ◌++◌, length, get_or, take, drop, Some, sym, refl, ap, ◌∙◌, subst, ⊎_elim, mod-eq_of_lt, mul_assoc, pow-suc, add-one, arith, take-append-drop, pow_mono}
 use lib.Bits.{bit_and, and_block, and_le_r, and_mod, and_zero_r}
 use Rattle.std.proofs.lemmas.Nat.{shr_split, mod_below, pow_pos, and_mask, mul-le, div-mul-add, mod-mul-add}
 use Rattle.std.proofs.lemmas.List.{length_push, take_more, take_all, drop_more, length-take-le}

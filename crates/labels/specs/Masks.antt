@@ -1,5 +1,5 @@
 -- A pattern as a care mask and a value.
-use Rattle.std.specs.Prelude.{◌≡◌, ℕ, ◌+◌, ◌*◌, ◌^◌, Bool, true, false, cond, List, [], ◌∷◌, length, Some, None, Option, ◌==◌, bit_and}
+use Rattle.std.specs.Prelude.{◌≡◌, ℕ, Bool, true, false, cond, List, Some, None, Option, ◌==◌, bit_and}
 use Rattle.labels.specs.Patterns.{sign, matches}
 use Rattle.labels.specs.declared.pattern.Pattern.{Pattern}
 

@@ -1,5 +1,5 @@
 -- Code points and the ranges that guards are given by.
-use Rattle.std.specs.Prelude.{◌≡◌, ℕ, ◌+◌, ◌<◌, ◌≤◌, Bool, false, cond, not, ◌&&◌, ◌||◌, List, [], ◌∷◌, length, ◌==◌, nat_le, slice_index_or}
+use Rattle.std.specs.Prelude.{ℕ, ◌<◌, ◌≤◌, Bool, false, cond, not, ◌&&◌, ◌||◌, List, [], ◌∷◌, length, ◌==◌, nat_le, slice_index_or}
 use Rattle.labels.specs.Meaning.{Meaning}
 use Rattle.labels.specs.declared.range.Given.{Given}
 use Rattle.labels.specs.declared.range.Range.{Range}

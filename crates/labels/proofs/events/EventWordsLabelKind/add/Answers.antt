@@ -5,20 +5,23 @@ use Rattle.labels.specs.Patterns.{matches, pattern_formed}
 use Rattle.labels.proofs.Tables.{marked_joins, marked_known, joins_same}
 use Rattle.labels.proofs.events.EventWordsLabelKind.add.Goals as goal
 
-pub invariant-of-self : goal.invariant-of-self
-invariant-of-self c =
+pub invariant_of-self : goal.invariant_of-self
+invariant_of-self c =
     let k = c.args.self.now in
-    let m = c.mark.ensures in (
-      m.long ∙ k.long,
-      (omega arith, (marked_known (vec_items k.sets) (vec_items c.mark.new.sets) k.guards c.args.guard c.max-self.result (admits c.in-Some.pattern) m c.max-self.ensures k.known, (omega (arith, k.limit), tt))),
-    )
+    let m = c.mark.ensures in
+    record {
+      long = m.long ∙ k.long;
+      few = omega arith;
+      known = marked_known (vec_items k.sets) (vec_items c.mark.new.sets) k.guards c.args.guard c.max-self.result (admits c.in-Some.pattern) m c.max-self.ensures k.known;
+      limit = omega (arith, k.limit);
+    }
 
 pub returns : goal.returns
 returns c =
     let k = c.args.self.now in
     let g = c.args.guard in
     let cs = string_bytes c.args.value.now in
-    let text = c.as-bytes.ensures.value in
+    let text = c.as_bytes.ensures.value in
     let told = c.in-Some.ensures in (
       omega arith,
       ap pattern_formed (sym text) ∙ told.0,

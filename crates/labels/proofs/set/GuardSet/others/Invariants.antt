@@ -1,4 +1,4 @@
-use Rattle.std.proofs.Common.{◌≡◌, ℕ, ◌≤◌, not, ◌&&◌, ltb}
+use Rattle.std.proofs.Common.{◌≡◌, ℕ, not, ◌&&◌, ltb}
 use Rattle.labels.specs.Sets.{has}
 use Rattle.labels.proofs.set.GuardSet.others.Given as goal
 

@@ -4,12 +4,14 @@ use Rattle.std.proofs.lemmas.Bool.{lt-ltb}
 use Rattle.labels.proofs.Tables.{one_joins, one_known}
 use Rattle.labels.proofs.tags.TagsLabelKind.add.Goals as goal
 
-pub invariant-of-self : goal.invariant-of-self
-invariant-of-self c =
-    let k = c.args.self.now in (
-      length-set k.sets c.args.value.now.0 c.with.result ∙ k.long,
-      (omega arith, (one_known k.sets k.guards c.args.value.now.0 c.args.guard c.max-self.result c.with.result (omega arith) (omega arith) c.with.ensures c.max-self.ensures k.known, tt)),
-    )
+pub invariant_of-self : goal.invariant_of-self
+invariant_of-self c =
+    let k = c.args.self.now in
+    record {
+      long = length-set k.sets c.args.value.now.0 c.with.result ∙ k.long;
+      few = omega arith;
+      known = one_known k.sets k.guards c.args.value.now.0 c.args.guard c.max-self.result c.with.result (omega arith) (omega arith) c.with.ensures c.max-self.ensures k.known;
+    }
 
 pub returns : goal.returns
 returns c =
