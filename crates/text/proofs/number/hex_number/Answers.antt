@@ -2,7 +2,7 @@ use Rattle.std.proofs.Common.{◌≤◌, length, arith, lit<}
 use native.Mathlib.Nat.{pow-le-pow_right}
 use Rattle.text.proofs.number.hex_number.Goals as goal
 
-pub digits-after-requires : goal.digits-after-requires
-digits-after-requires c =
+pub digits_after-requires : goal.digits_after-requires
+digits_after-requires c =
     let few : length c.args.word.now ≤ 6 = omega arith in
     record { base = omega arith; room = omega (arith, pow-le-pow_right {n = 16} (lit< tt) few) }
