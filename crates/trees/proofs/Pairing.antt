@@ -6,7 +6,7 @@ use Rattle.trees.specs.Automata.{Automaton, Complete, run, accepted}
 use Rattle.trees.specs.Rounds.{Combination, nullary, Below, Allowed, step}
 use Rattle.trees.specs.Lines.{rename}
 use Rattle.trees.specs.Products.{Pairs}
-use Rattle.trees.specs.Theorems.{OnePairing, NoSplit, FirstSplit}
+use Rattle.trees.specs.Theorems.{OnePairing, NoSplit, FirstSplitTells}
 use Rattle.trees.proofs.Running.{run_below, root, root_below}
 use Rattle.trees.proofs.Growing.{tree_at}
 use Rattle.trees.proofs.Reaching.{Reaches, reaches, round_height, rounds_rise}
@@ -72,7 +72,7 @@ no_split σ A B P p = (
   λ h i l. alike_at p i l (h (tree p i) (reach p i l).over),
 )
 
-pub first_split : FirstSplit
+pub first_split : FirstSplitTells
 first_split σ A B P p i first =
     let l = first.found in
     let n = p.numbered in

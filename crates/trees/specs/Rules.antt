@@ -1,7 +1,7 @@
 -- Schemas: guarded rules that give nodes their states, and the states that accept.
 use Rattle.std.specs.Prelude.{◌≡◌, ℕ, Bool, true, false, ◌&&◌, ◌||◌, List, [], ◌∷◌, ◌==◌}
 use Rattle.std.specs.List.{ContainsAt as Has}
-use Rattle.trees.specs.Trees.{Tree, leaf, one, two, Language}
+use Rattle.trees.specs.Trees.{Tree, leaf, one, two}
 
 -- A node with so many children, in these states, and a label that the guards admit can have the rule's state. The state of
 -- an absent child is not looked at.

@@ -6,7 +6,7 @@ use Rattle.trees.specs.Rounds.{Combination, Numbered}
 use Rattle.trees.specs.Normal.{NormalForm, Same, Apart}
 use Rattle.trees.specs.Rules.{Rule, CanHave, states}
 use Rattle.trees.specs.Lines.{Stands, Ordered, Renumbered, rank}
-use Rattle.trees.specs.Products.{Pairs, Split, FirstSplit}
+use Rattle.trees.specs.Products.{Pairs, FirstSplit}
 use Rattle.trees.specs.Classes.{Separate, Refines, Stable, Quotient}
 use Rattle.trees.specs.Letters.{Atoms, by_atoms, Corresponds}
 
@@ -89,8 +89,8 @@ pub record TellsApart {σ : Alphabet} {A B P : Automaton} (pairs : Pairs σ A B 
   pub one : accepted A tree ≡ accepted B tree → ⊥
   pub shortest : (t : Tree) → Over σ t → (accepted A t ≢ accepted B t) → height tree ≤ height t
 
-abbrev pub FirstSplit : Type 0
-FirstSplit = (σ : Alphabet) (A B P : Automaton) (pairs : Pairs σ A B P) (i : ℕ) → FirstSplit pairs i → TellsApart pairs i
+abbrev pub FirstSplitTells : Type 0
+FirstSplitTells = (σ : Alphabet) (A B P : Automaton) (pairs : Pairs σ A B P) (i : ℕ) → FirstSplit pairs i → TellsApart pairs i
 
 -- Lines that use only lines before them stand for one tree each;
 abbrev pub OneTree : Type 0

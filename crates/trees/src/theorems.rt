@@ -1,7 +1,7 @@
 // Each function does nothing; its contract is a theorem about trees and their automata.
 ghost use Rattle.trees.specs.Theorems.{FewestStates, OneNormalForm, RoundsAreHeights, ApartNeedsStates, OneNumbering, OnePairing};
 ghost use Rattle.trees.specs.Theorems.{RefinedClasses, SeparateClasses, StableClasses, SetsByRules};
-ghost use Rattle.trees.specs.Theorems.{NoSplit, FirstSplit, OneTree, LinesAnew, NumberedOverLabels, NormalOverLabels};
+ghost use Rattle.trees.specs.Theorems.{NoSplit, FirstSplitTells, OneTree, LinesAnew, NumberedOverLabels, NormalOverLabels};
 ghost use Rattle.trees.specs.Examples.{Examples};
 
 pub fn fewest_states()
@@ -49,7 +49,7 @@ pub fn no_split()
 {}
 
 pub fn first_split()
-    ensures { FirstSplit }
+    ensures { FirstSplitTells }
 {}
 
 pub fn one_tree()
