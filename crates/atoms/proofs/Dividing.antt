@@ -1,9 +1,9 @@
 -- From the atoms of the first g guards to those of the first g + 1.
-use Rattle.std.proofs.Common.{◌≡◌, ℕ, ◌+◌, ◌<◌, ◌≤◌, true, false, ◌&&◌, ◌||◌, eqb, ltb, ◌⊎◌, List, Ok, Err, Result, sym, refl, ap, ◌∙◌, subst, inl, inr, ⊎_elim, arith}
+use Rattle.std.proofs.Common.{◌≡◌, ℕ, ◌+◌, ◌<◌, ◌≤◌, false, ◌&&◌, ◌||◌, eqb, ltb, ◌⊎◌, List, Ok, Err, sym, subst, inl, inr, ⊎_elim, arith}
 use Rattle.std.proofs.lemmas.Bool.{cases_lt}
 use Rattle.labels.specs.Meaning.{Meaning, Lawful}
 use Rattle.labels.specs.Sets.{has}
-use Rattle.atoms.specs.Atoms.{Exactly, IsAtom, Lists, MoreThan}
+use Rattle.atoms.specs.Atoms.{Exactly, Lists, MoreThan}
 use Rattle.atoms.specs.Drafts.{Keeps, first, atom_of}
 use Rattle.atoms.specs.Entries.{label_at, set_at}
 use Rattle.atoms.specs.declared.atom.Atom.{Atom}

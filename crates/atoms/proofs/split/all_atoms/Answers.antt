@@ -1,4 +1,4 @@
-use Rattle.std.proofs.Common.{◌≡◌, ℕ, sym, ◌∙◌, subst, arith}
+use Rattle.std.proofs.Common.{◌≡◌, subst, arith}
 use Rattle.atoms.specs.Atoms.{Lists}
 use Rattle.atoms.specs.Drafts.{first}
 use Rattle.atoms.proofs.Dividing.{kept_covers, empty_covers, first_listed, last_listed}
@@ -8,13 +8,13 @@ pub loop-g-init : goal.loop-g-init
 loop-g-init g c =
     let m = (g.K.LabelKind.book c.args.kind.now).meaning in
     first_listed m c.none.result.0 _ _ c.none.ensures
-    (kept_covers c.new-draft.result c.keep.new.parts c.none.result.0 (λ y e d. d) (empty_covers (first 0 m) c.new-draft.result c.new-draft.ensures) _ c.in-ok-keep.ensures)
+    (kept_covers c.new-draft.result c.keep.new.parts c.none.result.0 (λ y e d. d) (empty_covers (first 0 m) c.new-draft.result c.new-draft.ensures) _ c.in_ok-keep.ensures)
 
 pub divide-requires : goal.divide-requires
 divide-requires g c = record { small = omega (arith, c.lawful.ensures.few, c.count-g-end.ensures); lists = c.loop-g.invariant }
 
 pub loop-g-preserved : goal.loop-g-preserved
-loop-g-preserved g c = c.in-ok-draft.ensures
+loop-g-preserved g c = c.in_ok-draft.ensures
 
 pub returns : goal.returns
 returns g c =

@@ -1,6 +1,5 @@
-use Rattle.std.proofs.Common.{ℕ, ◌+◌, ◌⊎◌, refl, arith}
+use Rattle.std.proofs.Common.{◌+◌, ◌⊎◌, refl, arith}
 use Rattle.std.proofs.lemmas.Result.{MatchResult-from_err}
-use Rattle.labels.specs.Meaning.{Meaning}
 use Rattle.atoms.specs.Atoms.{Exactly}
 use Rattle.atoms.specs.Drafts.{first}
 use Rattle.atoms.specs.Entries.{set_at}
@@ -8,7 +7,7 @@ use Rattle.atoms.proofs.Covering.{Covers}
 use Rattle.atoms.proofs.Dividing.{Among, kept_covers, kept_crowded, none_covers, all_listed, next_covers, only_at, only_with, new_with, new_without}
 use Rattle.atoms.proofs.split.divide.Given as given
 use Rattle.atoms.proofs.split.divide.Goals as goal
-use Rattle.atoms.proofs.split.divide.Goals.{In-ok-keep}
+use Rattle.atoms.proofs.split.divide.Goals.{In_ok-keep}
 
 pub loop-i-init : goal.loop-i-init
 loop-i-init g c =
@@ -20,14 +19,14 @@ keep-requires g c = record {
   only = only_with (g.K.LabelKind.book c.args.kind.now).meaning c.args.g c.requires.small c.args.whole.now.atoms c.args.whole.now.len c.requires.lists c.loop-i.i c.with.result.0 c.loop-i-test.true c.with.ensures;
 }
 
-pub returns-in-err-keep : goal.returns-in-err-keep
-returns-in-err-keep g c =
+pub returns-in_err-keep : goal.returns-in_err-keep
+returns-in_err-keep g c =
     let m = (g.K.LabelKind.book c.args.kind.now).meaning in
-    MatchResult-from_err c.from-residual.result _ _ c.from-residual.ensures.0
+    MatchResult-from_err c.from_residual.result _ _ c.from_residual.ensures.0
     (λ _.
     kept_crowded c.loop-i.parts c.keep.new.parts c.with.result.0
     (new_with m c.args.g c.requires.small c.args.whole.now.atoms c.args.whole.now.len c.requires.lists c.loop-i.i c.with.result.0 c.loop-i-test.true c.with.ensures)
-    c.loop-i.invariant m (c.args.g + 1) refl _ c.in-err-keep.ensures)
+    c.loop-i.invariant m (c.args.g + 1) refl _ c.in_err-keep.ensures)
 
 pub keep-requires-in-loop-i : goal.keep-requires-in-loop-i
 keep-requires-in-loop-i g c = record {
@@ -36,21 +35,21 @@ keep-requires-in-loop-i g c = record {
 }
 
 -- after the atom with the guard
-half : (g : given.Over) (c : In-ok-keep g) → Covers (first (c.args.g + 1) (g.K.LabelKind.book c.args.kind.now).meaning) (λ x. Among (first c.args.g (g.K.LabelKind.book c.args.kind.now).meaning) c.args.whole.now.atoms c.loop-i.i x ⊎ Exactly (first (c.args.g + 1) (g.K.LabelKind.book c.args.kind.now).meaning) c.with.result.0 x) c.keep.new.parts.atoms c.keep.new.parts.len
+half : (g : given.Over) (c : In_ok-keep g) → Covers (first (c.args.g + 1) (g.K.LabelKind.book c.args.kind.now).meaning) (λ x. Among (first c.args.g (g.K.LabelKind.book c.args.kind.now).meaning) c.args.whole.now.atoms c.loop-i.i x ⊎ Exactly (first (c.args.g + 1) (g.K.LabelKind.book c.args.kind.now).meaning) c.with.result.0 x) c.keep.new.parts.atoms c.keep.new.parts.len
 half g c =
     let m = (g.K.LabelKind.book c.args.kind.now).meaning in
     kept_covers c.loop-i.parts c.keep.new.parts c.with.result.0
     (new_with m c.args.g c.requires.small c.args.whole.now.atoms c.args.whole.now.len c.requires.lists c.loop-i.i c.with.result.0 c.loop-i-test.true c.with.ensures)
-    c.loop-i.invariant _ c.in-ok-keep.ensures
+    c.loop-i.invariant _ c.in_ok-keep.ensures
 
-pub returns-in-err-keep-2 : goal.returns-in-err-keep-2
-returns-in-err-keep-2 g c =
+pub returns-in_err-keep-2 : goal.returns-in_err-keep-2
+returns-in_err-keep-2 g c =
     let m = (g.K.LabelKind.book c.args.kind.now).meaning in
-    MatchResult-from_err c.from-residual-in-err-keep-2.result _ _ c.from-residual-in-err-keep-2.ensures.0
+    MatchResult-from_err c.from_residual-in_err-keep-2.result _ _ c.from_residual-in_err-keep-2.ensures.0
     (λ _.
     kept_crowded c.keep.new.parts c.keep-in-loop-i.new.parts (set_at c.args.whole.now.atoms c.loop-i.i)
     (new_without m c.args.g c.requires.small c.args.whole.now.atoms c.args.whole.now.len c.requires.lists c.loop-i.i c.with.result.0 c.loop-i-test.true c.with.ensures)
-    (half g (goal.at.returns-in-err-keep-2 g c).In-ok-keep) m (c.args.g + 1) refl _ c.in-err-keep-2.ensures)
+    (half g (goal.at.returns-in_err-keep-2 g c).In_ok-keep) m (c.args.g + 1) refl _ c.in_err-keep-2.ensures)
 
 pub loop-i-preserved : goal.loop-i-preserved
 loop-i-preserved g c =
@@ -58,7 +57,7 @@ loop-i-preserved g c =
     next_covers m c.args.g c.requires.small c.args.whole.now.atoms c.args.whole.now.len c.requires.lists c.loop-i.i c.with.result.0 c.loop-i-test.true c.with.ensures _ _
     (kept_covers c.keep.new.parts c.keep-in-loop-i.new.parts (set_at c.args.whole.now.atoms c.loop-i.i)
     (new_without m c.args.g c.requires.small c.args.whole.now.atoms c.args.whole.now.len c.requires.lists c.loop-i.i c.with.result.0 c.loop-i-test.true c.with.ensures)
-    (half g (goal.at.loop-i-preserved g c).In-ok-keep) _ c.in-ok-keep-2.ensures)
+    (half g (goal.at.loop-i-preserved g c).In_ok-keep) _ c.in_ok-keep-2.ensures)
 
 pub returns : goal.returns
 returns g c =
