@@ -1,5 +1,5 @@
 -- The pair of two kinds.
-use Rattle.std.specs.Prelude.{ℕ, ◌/◌, ◌%◌, ◌^◌, Bool, true, false, ◌&&◌, ◌||◌, List, [], ◌∷◌, is_some, Some, None, Option, ◌==◌, nat_lt, slice_index_or}
+use Rattle.std.specs.Prelude.{ℕ, ◌/◌, ◌%◌, ◌^◌, Bool, false, ◌&&◌, ◌||◌, List, [], ◌∷◌, is_some, Some, None, Option, ◌==◌, nat_lt, slice_index_or}
 use Rattle.labels.specs.Adding.{Book}
 use Rattle.labels.specs.Meaning.{Meaning}
 use Rattle.pairs.specs.declared.value.PairValue.{PairValue}

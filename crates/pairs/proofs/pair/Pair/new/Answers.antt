@@ -3,8 +3,8 @@ use Rattle.pairs.proofs.Labels.{fresh_pair}
 use Rattle.pairs.proofs.Values.{none_at, fresh_known, fresh_small}
 use Rattle.pairs.proofs.pair.Pair.new.Goals as goal
 
-pub invariant-of-result : goal.invariant-of-result
-invariant-of-result g c = (refl, (omega arith, (fresh_known 32, (fresh_small 32, tt))))
+pub invariant_of-result : goal.invariant_of-result
+invariant_of-result g c = record { long = refl; few = omega arith; known = fresh_known 32; small = fresh_small 32 }
 
 pub returns : goal.returns
 returns g c = record {
