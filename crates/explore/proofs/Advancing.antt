@@ -1,12 +1,12 @@
 -- A combination tried takes the search on by one position.
-use Rattle.std.proofs.Common.{◌≡◌, ℕ, zero, suc, ◌+◌, ◌<◌, ◌≤◌, true, cond, eqb, ◌⊎◌, List, [], ◌∷◌, length, get_or, set, Ok, Err, Result, sym, refl, ap, ◌∙◌, subst, ap₂, inl, inr, ⊎_elim, arith, length-set}
+use Rattle.std.proofs.Common.{◌≡◌, ℕ, zero, suc, ◌+◌, ◌<◌, ◌≤◌, true, cond, eqb, ◌⊎◌, List, [], ◌∷◌, length, get_or, set, Ok, Err, Result, sym, refl, ap, ◌∙◌, subst, ap₂, ⊎_elim, arith, length-set}
 use Rattle.std.proofs.lemmas.List.{get_or_default}
 use Rattle.std.proofs.lemmas.Bool.{cond-false, ne_eqb, ltb-true, lt-ltb}
 use Rattle.trees.specs.Rounds.{Combination, nullary, unary, binary, Allowed, Below, key}
 use Rattle.explore.specs.Steps.{Steps, Fit, apply, letters}
 use Rattle.explore.specs.Firsts.{first_at, combination}
 use Rattle.explore.specs.Numbers.{At}
-use Rattle.explore.specs.Rounds.{InRound, Tries, Grows, Advances, MoreThan, entry_at, Remembers}
+use Rattle.explore.specs.Rounds.{InRound, Tries, Grows, Advances, MoreThan, entry_at}
 use Rattle.explore.specs.declared.full.Full.{Full}
 use Rattle.explore.proofs.Places.{before_new, at_new}
 use Rattle.explore.proofs.Positions.{found_again, found_new, leaf_turn, single_turn, double_turn}

@@ -1,8 +1,7 @@
 -- The things found, as a list of them.
-use Rattle.std.proofs.Common.{◌≡◌, ℕ, zero, suc, ◌+◌, ◌<◌, ◌≤◌, Bool, true, false, cond, List, [], ◌∷◌, length, get_or, take, Decides, sym, refl, ap, ◌∙◌, subst, ⊎_elim, arith, length-take, get_or-take}
-use Rattle.std.proofs.lemmas.Bool.{cases_Bool, cond-true, cond-false}
+use Rattle.std.proofs.Common.{◌≡◌, ℕ, ◌<◌, ◌≤◌, Bool, List, length, take, Decides, sym, refl, ◌∙◌, subst, arith, length-take, get_or-take}
 use Rattle.trees.specs.Automata.{Automaton, Complete}
-use Rattle.trees.specs.Rounds.{Combination, nullary, unary, binary, step, Allowed, Below, Before, Numbered}
+use Rattle.trees.specs.Rounds.{Combination, nullary, unary, binary, step, Allowed, Below, Numbered}
 use Rattle.trees.specs.Trees.{Alphabet, letters}
 use Rattle.trees.proofs.Running
 use Rattle.trees.proofs.Running.{step_below}

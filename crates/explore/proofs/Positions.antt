@@ -1,10 +1,9 @@
 -- How the search goes on from position to position.
-use Rattle.std.proofs.Common.{◌≡◌, ℕ, ◌+◌, ◌<◌, ◌≤◌, max, true, ltb, ◌⊎◌, List, [], ◌∷◌, ◌++◌, sym, refl, ap, ◌∙◌, subst, inl, inr, ⊎_elim, arith, below_more}
+use Rattle.std.proofs.Common.{◌≡◌, ℕ, ◌+◌, ◌<◌, ◌≤◌, max, ◌⊎◌, List, [], ◌∷◌, refl, ap, ◌∙◌, inl, inr, ⊎_elim, arith, below_more}
 use Rattle.std.proofs.lemmas.Bool.{cases_lt, ltb-true}
-use Rattle.trees.proofs.Order.{less_irreflexive}
-use Rattle.trees.specs.Rounds.{Combination, nullary, unary, binary, Allowed, Below, round_of, key, Less, Before}
+use Rattle.trees.specs.Rounds.{Combination, nullary, unary, binary, Allowed, Below, round_of, key, Less}
 use Rattle.explore.specs.Steps.{Steps, apply, letters}
-use Rattle.explore.specs.Rounds.{Underway, InRound}
+use Rattle.explore.specs.Rounds.{InRound}
 use Rattle.explore.proofs.Progress.{skip, again, fresh, round', round_old, round_new}
 
 -- before anything has been tried

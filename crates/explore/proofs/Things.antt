@@ -1,5 +1,5 @@
 -- In the automaton of a list of things, the state of a tree is the place of its thing.
-use Rattle.std.proofs.Common.{◌≡◌, ℕ, ◌<◌, Bool, List, length, Decides, refl, ap, ◌∙◌, ap₂}
+use Rattle.std.proofs.Common.{◌≡◌, Bool, List, Decides, ap, ◌∙◌, ap₂}
 use Rattle.trees.specs.Automata.{Complete, run}
 use Rattle.trees.specs.Trees.{Tree, leaf, one, two, Over, letters}
 use Rattle.trees.proofs.Running.{run_below}

@@ -1,5 +1,5 @@
 -- Entries numbered as they are found, each once.
-use Rattle.std.specs.Prelude.{◌≡◌, ℕ, ◌+◌, ◌<◌, ◌≤◌, ◌⊎◌, List, length, Some, None, Option, slice_index_or, slice_set}
+use Rattle.std.specs.Prelude.{◌≡◌, ℕ, ◌+◌, ◌<◌, ◌⊎◌, List, length, Some, None, Option, slice_index_or, slice_set}
 
 -- e stands at place k, whatever is read past the end
 abbrev pub At : {E : Type 0} → List E → ℕ → E → Type 0

@@ -8,7 +8,7 @@ returns g c =
     let n = c.args.len.now in
     let room = c.if-n-entries.false in
     record {
-      numbers = inr (c.in-default.ensures, room, refl, refl, refl);
+      numbers = inr (c.in_default.ensures, room, refl, refl, refl);
       within = simp length-set (omega arith);
-      once = push_once es n c.args.e room c.requires.once c.in-default.ensures;
+      once = push_once es n c.args.e room c.requires.once c.in_default.ensures;
     }

@@ -1,5 +1,4 @@
-use Rattle.std.proofs.Common.{◌≡◌, ◌<◌, true, length, Ok, Err, sym, ap, ◌∙◌, subst, arith}
-use Rattle.std.proofs.lemmas.List.{get_or_default}
+use Rattle.std.proofs.Common.{◌≡◌, ◌<◌, Ok, Err, sym, ap, ◌∙◌, subst, arith}
 use Rattle.std.proofs.lemmas.Result.{err_from_is_err_and}
 use Rattle.explore.specs.Firsts.{first_at}
 use Rattle.explore.specs.Rounds.{InRound, entry_at}
@@ -19,28 +18,28 @@ double-requires g c =
       label = omega (arith, c.loop-a-test.true, c.atoms-a-end.ensures);
     }
 
-pub returns-in-err-try-one : goal.returns-in-err-try-one
-returns-in-err-try-one g c =
-    let p = err_from_is_err_and c.from-residual.result c.from-residual.ensures.1 in
+pub returns-in_err-try_one : goal.returns-in_err-try_one
+returns-in_err-try_one g c =
+    let p = err_from_is_err_and c.from_residual.result c.from_residual.ensures.1 in
     let inv = c.loop-a.invariant in
-    let to = c.try-one.new in
+    let to = c.try_one.new in
     let S = g.S.Stepping.steps c.args.steps.now in
     let bs = c.args.found.now.entries.now in
     let label : c.loop-a.a < S.atoms = omega (arith, c.loop-a-test.true, c.atoms-a-end.ensures) in
     rw p.1 (record {
-      advances = double_on S bs c.args.found.now.len c.loop-a.found.entries.now c.loop-a.found.len c.loop-a.firsts inv.1 c.loop-a.found.within (omega (arith, inv.1.long, c.requires.room.small)) c.args.old c.args.start c.args.p c.requires.at.ordered.1 c.get-left.result c.get-left.ensures c.args.q c.get-right.result c.get-right.ensures c.loop-a.a inv.0 c.requires.turn.0 c.requires.turn.1 c.requires.turn.2 label c.double.result c.double.ensures (Err c.in-err-try-one.field-0.0) to.found.entries.now to.found.len to.firsts c.in-err-try-one.ensures.tries;
-      lent = c.in-err-try-one.ensures.lent ∙ inv.2;
+      advances = double_on S bs c.args.found.now.len c.loop-a.found.entries.now c.loop-a.found.len c.loop-a.firsts inv.1 c.loop-a.found.within (omega (arith, inv.1.long, c.requires.room.small)) c.args.old c.args.start c.args.p c.requires.at.ordered.1 c.get-left.result c.get-left.ensures c.args.q c.get-right.result c.get-right.ensures c.loop-a.a inv.0 c.requires.turn.0 c.requires.turn.1 c.requires.turn.2 label c.double.result c.double.ensures (Err c.in_err-try_one.field-0.0) to.found.entries.now to.found.len to.firsts c.in_err-try_one.ensures.tries;
+      lent = c.in_err-try_one.ensures.lent ∙ inv.2;
     })
 
 pub loop-a-preserved : goal.loop-a-preserved
 loop-a-preserved g c =
     let inv = c.loop-a.invariant in
-    let to = c.try-one.new in
+    let to = c.try_one.new in
     let S = g.S.Stepping.steps c.args.steps.now in
     let bs = c.args.found.now.entries.now in
     let label : c.loop-a.a < S.atoms = omega (arith, c.loop-a-test.true, c.atoms-a-end.ensures) in
-    let next = double_on S bs c.args.found.now.len c.loop-a.found.entries.now c.loop-a.found.len c.loop-a.firsts inv.1 c.loop-a.found.within (omega (arith, inv.1.long, c.requires.room.small)) c.args.old c.args.start c.args.p c.requires.at.ordered.1 c.get-left.result c.get-left.ensures c.args.q c.get-right.result c.get-right.ensures c.loop-a.a inv.0 c.requires.turn.0 c.requires.turn.1 c.requires.turn.2 label c.double.result c.double.ensures (Ok c.in-ok-try-one.field-0) to.found.entries.now to.found.len to.firsts c.in-ok-try-one.ensures.tries in
-    (next.0, next.1, c.in-ok-try-one.ensures.lent ∙ inv.2)
+    let next = double_on S bs c.args.found.now.len c.loop-a.found.entries.now c.loop-a.found.len c.loop-a.firsts inv.1 c.loop-a.found.within (omega (arith, inv.1.long, c.requires.room.small)) c.args.old c.args.start c.args.p c.requires.at.ordered.1 c.get-left.result c.get-left.ensures c.args.q c.get-right.result c.get-right.ensures c.loop-a.a inv.0 c.requires.turn.0 c.requires.turn.1 c.requires.turn.2 label c.double.result c.double.ensures (Ok c.in_ok-try_one.field-0) to.found.entries.now to.found.len to.firsts c.in_ok-try_one.ensures.tries in
+    (next.0, next.1, c.in_ok-try_one.ensures.lent ∙ inv.2)
 
 pub returns : goal.returns
 returns g c =

@@ -12,22 +12,22 @@ loop-a-init g c =
     let es = c.args.found.now.entries.now in
     (rw c.requires.empty (begin S (entry_at S es) (first_at c.args.firsts.now)), grows_none es c.args.found.now.len, refl)
 
-pub returns-in-err-try-one : goal.returns-in-err-try-one
-returns-in-err-try-one g c =
-    let p = err_from_is_err_and c.from-residual.result c.from-residual.ensures.1 in
+pub returns-in_err-try_one : goal.returns-in_err-try_one
+returns-in_err-try_one g c =
+    let p = err_from_is_err_and c.from_residual.result c.from_residual.ensures.1 in
     let inv = c.loop-a.invariant in
-    let to = c.try-one.new in
+    let to = c.try_one.new in
     rw p.1 (record {
-      advances = leaf_on (g.S.Stepping.steps c.args.steps.now) c.args.found.now.entries.now c.args.found.now.len c.loop-a.found.entries.now c.loop-a.found.len c.loop-a.firsts inv.1 c.loop-a.found.within (omega (arith, inv.1.long, c.requires.room.small)) c.loop-a.a inv.0 (omega (arith, c.loop-a-test.true, c.atoms-a-end.ensures)) c.none.result c.none.ensures (Err c.in-err-try-one.field-0.0) to.found.entries.now to.found.len to.firsts c.in-err-try-one.ensures.tries;
-      lent = c.in-err-try-one.ensures.lent ∙ inv.2;
+      advances = leaf_on (g.S.Stepping.steps c.args.steps.now) c.args.found.now.entries.now c.args.found.now.len c.loop-a.found.entries.now c.loop-a.found.len c.loop-a.firsts inv.1 c.loop-a.found.within (omega (arith, inv.1.long, c.requires.room.small)) c.loop-a.a inv.0 (omega (arith, c.loop-a-test.true, c.atoms-a-end.ensures)) c.none.result c.none.ensures (Err c.in_err-try_one.field-0.0) to.found.entries.now to.found.len to.firsts c.in_err-try_one.ensures.tries;
+      lent = c.in_err-try_one.ensures.lent ∙ inv.2;
     })
 
 pub loop-a-preserved : goal.loop-a-preserved
 loop-a-preserved g c =
     let inv = c.loop-a.invariant in
-    let to = c.try-one.new in
-    let next = leaf_on (g.S.Stepping.steps c.args.steps.now) c.args.found.now.entries.now c.args.found.now.len c.loop-a.found.entries.now c.loop-a.found.len c.loop-a.firsts inv.1 c.loop-a.found.within (omega (arith, inv.1.long, c.requires.room.small)) c.loop-a.a inv.0 (omega (arith, c.loop-a-test.true, c.atoms-a-end.ensures)) c.none.result c.none.ensures (Ok c.in-ok-try-one.field-0) to.found.entries.now to.found.len to.firsts c.in-ok-try-one.ensures.tries in
-    (next.0, next.1, c.in-ok-try-one.ensures.lent ∙ inv.2)
+    let to = c.try_one.new in
+    let next = leaf_on (g.S.Stepping.steps c.args.steps.now) c.args.found.now.entries.now c.args.found.now.len c.loop-a.found.entries.now c.loop-a.found.len c.loop-a.firsts inv.1 c.loop-a.found.within (omega (arith, inv.1.long, c.requires.room.small)) c.loop-a.a inv.0 (omega (arith, c.loop-a-test.true, c.atoms-a-end.ensures)) c.none.result c.none.ensures (Ok c.in_ok-try_one.field-0) to.found.entries.now to.found.len to.firsts c.in_ok-try_one.ensures.tries in
+    (next.0, next.1, c.in_ok-try_one.ensures.lent ∙ inv.2)
 
 pub returns : goal.returns
 returns g c =

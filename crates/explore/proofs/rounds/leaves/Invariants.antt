@@ -1,4 +1,4 @@
-use Rattle.std.proofs.Common.{◌≡◌, ℕ}
+use Rattle.std.proofs.Common.{◌≡◌}
 use Rattle.explore.specs.Firsts.{first_at}
 use Rattle.explore.specs.Rounds.{InRound, Grows, entry_at}
 use Rattle.explore.proofs.rounds.leaves.Given as goal

@@ -15,22 +15,22 @@ single-requires g c =
       label = omega (arith, c.loop-a-test.true, c.atoms-a-end.ensures);
     }
 
-pub returns-in-err-try-one : goal.returns-in-err-try-one
-returns-in-err-try-one g c =
-    let p = err_from_is_err_and c.from-residual.result c.from-residual.ensures.1 in
+pub returns-in_err-try_one : goal.returns-in_err-try_one
+returns-in_err-try_one g c =
+    let p = err_from_is_err_and c.from_residual.result c.from_residual.ensures.1 in
     let inv = c.loop-a.invariant in
-    let to = c.try-one.new in
+    let to = c.try_one.new in
     rw p.1 (record {
-      advances = single_on (g.S.Stepping.steps c.args.steps.now) c.args.found.now.entries.now c.args.found.now.len c.loop-a.found.entries.now c.loop-a.found.len c.loop-a.firsts inv.1 c.loop-a.found.within (omega (arith, inv.1.long, c.requires.room.small)) c.args.old c.args.start c.args.p c.requires.at.ordered.1 c.get-below.result c.get-below.ensures c.loop-a.a inv.0 c.requires.turn.0 c.requires.turn.1 (omega (arith, c.loop-a-test.true, c.atoms-a-end.ensures)) c.single.result c.single.ensures (Err c.in-err-try-one.field-0.0) to.found.entries.now to.found.len to.firsts c.in-err-try-one.ensures.tries;
-      lent = c.in-err-try-one.ensures.lent ∙ inv.2;
+      advances = single_on (g.S.Stepping.steps c.args.steps.now) c.args.found.now.entries.now c.args.found.now.len c.loop-a.found.entries.now c.loop-a.found.len c.loop-a.firsts inv.1 c.loop-a.found.within (omega (arith, inv.1.long, c.requires.room.small)) c.args.old c.args.start c.args.p c.requires.at.ordered.1 c.get-below.result c.get-below.ensures c.loop-a.a inv.0 c.requires.turn.0 c.requires.turn.1 (omega (arith, c.loop-a-test.true, c.atoms-a-end.ensures)) c.single.result c.single.ensures (Err c.in_err-try_one.field-0.0) to.found.entries.now to.found.len to.firsts c.in_err-try_one.ensures.tries;
+      lent = c.in_err-try_one.ensures.lent ∙ inv.2;
     })
 
 pub loop-a-preserved : goal.loop-a-preserved
 loop-a-preserved g c =
     let inv = c.loop-a.invariant in
-    let to = c.try-one.new in
-    let next = single_on (g.S.Stepping.steps c.args.steps.now) c.args.found.now.entries.now c.args.found.now.len c.loop-a.found.entries.now c.loop-a.found.len c.loop-a.firsts inv.1 c.loop-a.found.within (omega (arith, inv.1.long, c.requires.room.small)) c.args.old c.args.start c.args.p c.requires.at.ordered.1 c.get-below.result c.get-below.ensures c.loop-a.a inv.0 c.requires.turn.0 c.requires.turn.1 (omega (arith, c.loop-a-test.true, c.atoms-a-end.ensures)) c.single.result c.single.ensures (Ok c.in-ok-try-one.field-0) to.found.entries.now to.found.len to.firsts c.in-ok-try-one.ensures.tries in
-    (next.0, next.1, c.in-ok-try-one.ensures.lent ∙ inv.2)
+    let to = c.try_one.new in
+    let next = single_on (g.S.Stepping.steps c.args.steps.now) c.args.found.now.entries.now c.args.found.now.len c.loop-a.found.entries.now c.loop-a.found.len c.loop-a.firsts inv.1 c.loop-a.found.within (omega (arith, inv.1.long, c.requires.room.small)) c.args.old c.args.start c.args.p c.requires.at.ordered.1 c.get-below.result c.get-below.ensures c.loop-a.a inv.0 c.requires.turn.0 c.requires.turn.1 (omega (arith, c.loop-a-test.true, c.atoms-a-end.ensures)) c.single.result c.single.ensures (Ok c.in_ok-try_one.field-0) to.found.entries.now to.found.len to.firsts c.in_ok-try_one.ensures.tries in
+    (next.0, next.1, c.in_ok-try_one.ensures.lent ∙ inv.2)
 
 pub returns : goal.returns
 returns g c =
