@@ -1,6 +1,6 @@
 -- One class more: what stays true when a class is parted.
-use Rattle.std.proofs.Common.{◌≡◌, ℕ, ◌+◌, ◌<◌, ◌≤◌, cond, ltb, ◌⊎◌, List, length, set, sym, refl, ap, ◌∙◌, subst, inl, inr, ⊎_elim, arith, length-set}
-use Rattle.std.proofs.lemmas.Bool.{cases_eq, cases_lt, cond_both, cond-true, cond-false, lt-ltb, le-ltb, ltb-true}
+use Rattle.std.proofs.Common.{◌≡◌, ℕ, ◌+◌, ◌<◌, ◌≤◌, cond, ltb, List, length, set, sym, ap, ◌∙◌, subst, inl, inr, ⊎_elim, arith, length-set}
+use Rattle.std.proofs.lemmas.Bool.{cases_eq, cond_both, cond-true, lt-ltb, ltb-true}
 use Rattle.trees.specs.Automata.{Automaton, Complete}
 use Rattle.trees.specs.Classes.{ToldApart, Tells, accept, single, left, right, Refines, Separate}
 use Rattle.trees.proofs.Classes.{told, refined_classes}

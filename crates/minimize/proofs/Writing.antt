@@ -1,5 +1,5 @@
 -- Lists written place by place.
-use Rattle.std.proofs.Common.{◌≡◌, ℕ, ◌+◌, ◌<◌, ◌≢◌, List, length, set, ◌∙◌, arith, get_or-set_other, get_or-set_same, below_more}
+use Rattle.std.proofs.Common.{ℕ, ◌+◌, ◌<◌, ◌≢◌, List, length, set, arith, get_or-set_other, get_or-set_same, below_more}
 use Rattle.minimize.specs.Tests.{at}
 
 -- what holds of the numbers written before a place, and of the one written there, holds up to it

@@ -1,4 +1,4 @@
-use Rattle.std.proofs.Common.{◌<◌, length, ap, ◌∙◌, arith, length-set}
+use Rattle.std.proofs.Common.{length, ap, ◌∙◌, arith, length-set}
 use Rattle.std.proofs.lemmas.List.{get_or-replicate, get_or-set_same}
 use Rattle.minimize.specs.Tests.{at}
 use Rattle.minimize.proofs.Parting.{one_class, parted_classes, too_many}
@@ -7,7 +7,7 @@ use Rattle.minimize.proofs.refine.minimize.Goals as goal
 pub loop-found-init : goal.loop-found-init
 loop-found-init g c =
     let zero = c.fill.ensures.after (λ y e. e) in
-    one_class _ _ _ _ c.fit.ensures.some (c.fill.ensures.len ∙ c.requires.classes-long) (length-set _ _ _ ∙ c.requires.reps-long)
+    one_class _ _ _ _ c.fit.ensures.some (c.fill.ensures.len ∙ c.requires.classes_long) (length-set _ _ _ ∙ c.requires.reps_long)
     (λ p h. ap (λ xs. at xs p) zero ∙ get_or-replicate (length c.args.classes.now) p 0 0 (omega arith))
     (get_or-set_same c.args.reps.now 0 0 0 (omega arith))
 

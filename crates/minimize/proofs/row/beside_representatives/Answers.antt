@@ -10,7 +10,7 @@ loop-k-preserved g c =
     elim c.if-k-atoms.branch [
       | then-k-atoms w ↦ (
         ap length w.table-is ∙ (length-set _ _ _ ∙ c.loop-k.invariant.0),
-        subst (λ t. (j : ℕ) → j < c.loop-k.k + 1 → P j (at t j)) (sym w.table-is) (written P c.loop-k.table c.loop-k.k w.class-beside.result (omega arith) c.loop-k.invariant.1 (λ _. w.class-beside.ensures)),
+        subst (λ t. (j : ℕ) → j < c.loop-k.k + 1 → P j (at t j)) (sym w.table-is) (written P c.loop-k.table c.loop-k.k w.class_beside.result (omega arith) c.loop-k.invariant.1 (λ _. w.class_beside.ensures)),
       )
       | else-k-atoms w ↦ (
         ap length w.table-is ∙ c.loop-k.invariant.0,

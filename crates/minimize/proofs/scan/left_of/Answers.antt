@@ -9,5 +9,5 @@ loop-i-preserved g c i a hi ha =
     let A = g.M.TreeAutomaton.meaning c.args.m.now in
     below_more (λ j. Alike A c.args.classes.of.now c.args.classes.reps.now (Left (rep j) a) c.args.p) c.loop-i.i
     (λ j h. c.loop-i.invariant j a h ha)
-    (c.in-default.ensures a ha
-    ∙ (c.beside-representatives-table.ensures c.loop-i.i a (omega arith) ha ∙ ap (λ r. at c.args.classes.of.now (A.double r (rep c.loop-i.i) a)) c.representative-r.ensures)) i hi
+    (c.in_default.ensures a ha
+    ∙ (c.beside_representatives-table.ensures c.loop-i.i a (omega arith) ha ∙ ap (λ r. at c.args.classes.of.now (A.double r (rep c.loop-i.i) a)) c.representative-r.ensures)) i hi
