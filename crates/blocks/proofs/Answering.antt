@@ -1,5 +1,5 @@
 -- From the lines of a guard block to what is printed.
-use Rattle.std.proofs.Common.{◌≡◌, ℕ, ◌≤◌, List, [], Some, None, Ok, Err, Option, Result, sym, refl, ap, ◌∙◌, subst, MatchResult}
+use Rattle.std.proofs.Common.{◌≡◌, ℕ, List, [], Some, None, Ok, Err, Option, Result, sym, refl, ap, ◌∙◌, subst, MatchResult}
 use Rattle.labels.specs.Meaning.{Meaning, Fresh}
 use Rattle.atoms.specs.Atoms.{MoreThan}
 use Rattle.atoms.specs.Tables.{TableOf}
@@ -9,7 +9,6 @@ use Rattle.blocks.specs.Answers.{Named, Says, Says.named, Says.unnamed, Declines
 use Rattle.blocks.specs.Printing.{table_text}
 use Rattle.blocks.specs.Reading.{Outcome, Outcome.book, Outcome.refused, Reads, Reads.all, Reads.bad}
 use Rattle.blocks.specs.Rows.{Format, Format.ranges, Format.tags, Format.patterns, Stops, label_of}
-use Rattle.blocks.specs.declared.refusal.Refusal.{Refusal}
 use Rattle.blocks.specs.declared.refusal.Refusal.TheVariants.{Line, TooManyAtoms}
 use Rattle.blocks.specs.declared.refusal.Stop.{Stop}
 use Rattle.blocks.specs.declared.refusal.Stop.TheVariants.{Refused, Memory}

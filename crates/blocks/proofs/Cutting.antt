@@ -1,6 +1,6 @@
 -- The first of a list of tokens, and its sign.
-use Rattle.std.proofs.Common.{◌≡◌, ℕ, ◌<◌, List, [], ◌∷◌, map, length, get_or, drop, sym, refl, ap, ◌∙◌, arith, Bor}
-use Rattle.text.specs.Tokens.{Sign, Sign.word, Sign.line_end, Sign.block_end, sign_of}
+use Rattle.std.proofs.Common.{◌≡◌, ℕ, ◌<◌, List, [], ◌∷◌, map, length, get_or, drop, refl, arith, Bor}
+use Rattle.text.specs.Tokens.{Sign, Sign.word, Sign.line_end, sign_of}
 use Rattle.text.specs.declared.token.Token.{Token}
 use Rattle.text.specs.declared.token.Token.TheVariants.{Word, LineEnd, BlockEnd}
 

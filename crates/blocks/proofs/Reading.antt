@@ -1,11 +1,10 @@
 -- What one line more makes of a reading.
-use Rattle.std.proofs.Common.{ℕ, ◌+◌, List, [], Option}
+use Rattle.std.proofs.Common.{ℕ, ◌+◌, List, Option}
 use Rattle.labels.specs.Adding.{Book}
 use Rattle.labels.specs.Meaning.{Meaning}
 use Rattle.text.specs.Tokens.{Sign}
 use Rattle.blocks.specs.Reading.{Outcome, Outcome.refused, Reads, Reads.takes, Reads.refuses}
 use Rattle.blocks.specs.Rows.{Format, Held, Takes, Refuses, Stops}
-use Rattle.blocks.specs.declared.refusal.Refusal.{Refusal}
 use Rattle.blocks.specs.declared.refusal.Stop.{Stop}
 use Rattle.blocks.specs.declared.refusal.Stop.TheVariants.{Refused, Memory}
 

@@ -1,11 +1,9 @@
 -- What adding the value of a line makes of the kind.
-use Rattle.std.proofs.Common.{◌≡◌, ℕ, ◌+◌, ◌-◌, ◌<◌, ◌≤◌, Bool, true, false, not, List, [], ◌∷◌, ◌++◌, map, length, drop, sym, refl, ap, ◌∙◌, subst, arith}
+use Rattle.std.proofs.Common.{◌≡◌, ℕ, ◌+◌, ◌-◌, ◌<◌, ◌≤◌, Bool, not, List, [], ◌∷◌, ◌++◌, map, length, drop, sym, refl, ap, ◌∙◌, subst, arith}
 use Rattle.std.proofs.lemmas.List.{length-append, length-drop, length-map, drop_at, drop-drop, drop-map}
 use Rattle.std.proofs.lemmas.Bool.{not-true, not-false}
-use Rattle.std.specs.Str.Parse.{digits_value}
 use Rattle.labels.proofs.Tables.{joins_same}
 use Rattle.labels.specs.Adding.{Book, Joins, Added}
-use Rattle.labels.specs.Meaning.{Meaning}
 use Rattle.text.specs.Tokens.{Sign, sign_of}
 use Rattle.text.specs.declared.token.Token.{Token}
 use Rattle.blocks.specs.Rows.{Format, Format.ranges, Format.tags, Format.patterns, Row, row, Writes, Takes, Refuses, Unread, Held, Stops, CanAdd, CannotAdd, labels, room}

@@ -9,7 +9,7 @@ use Rattle.labels.specs.Patterns.{sign, signs, pattern_formed, matches}
 use Rattle.labels.specs.Ranges.{range_formed, in_range}
 use Rattle.text.specs.Numbers.{Numeral, HexNumeral}
 use Rattle.text.specs.Tokens.{Sign, Sign.word, Sign.line_end}
-use Rattle.blocks.specs.Rows.{Format, Format.ranges, Format.tags, Format.patterns, Row, Read, Writes, SamePattern}
+use Rattle.blocks.specs.Rows.{Format.ranges, Format.tags, Format.patterns, Row, Read, Writes, SamePattern}
 
 -- ---- rows of two words, and of three
 

@@ -1,5 +1,5 @@
 -- What a guard block says: a meaning, or a refusal.
-use Rattle.std.specs.Prelude.{ℕ, ◌+◌, List, [], ◌∷◌, ◌++◌, map, Some, None, Option}
+use Rattle.std.specs.Prelude.{ℕ, ◌+◌, List, [], Some, None, Option}
 use Rattle.labels.specs.Meaning.{Meaning}
 use Rattle.text.specs.Tokens.{Sign}
 use Rattle.blocks.specs.Rows.{Format, Takes, Refuses}

@@ -4,22 +4,22 @@ use Rattle.std.proofs.Common.{map, string_bytes}
 use Rattle.blocks.proofs.Answering.{rows_declined, bad_declined, many_declined, tabulated}
 use Rattle.blocks.proofs.answer.table_of.Goals as goal
 
-pub returns-in-err-take-rows : goal.returns-in-err-take-rows
-returns-in-err-take-rows g c =
-    let p = err_from_is_err_and c.from-residual.result c.from-residual.ensures.1 in
-    rw (p.1, p.2) (rows_declined g.K.Readable.format (g.K.LabelKind.book c.args.kind).meaning (map sign_of c.args.tokens.now) c.args.bad c.in-err-take-rows.field-0.0 c.in-err-take-rows.ensures)
+pub returns-in_err-take_rows : goal.returns-in_err-take_rows
+returns-in_err-take_rows g c =
+    let p = err_from_is_err_and c.from_residual.result c.from_residual.ensures.1 in
+    rw (p.1, p.2) (rows_declined g.K.Readable.format (g.K.LabelKind.book c.args.kind).meaning (map sign_of c.args.tokens.now) c.args.bad c.in_err-take_rows.field-0.0 c.in_err-take_rows.ensures)
 
 pub returns-in-Some : goal.returns-in-Some
 returns-in-Some g c =
-    let told = c.in-ok-take-rows.ensures in
-    bad_declined g.K.Readable.format (g.K.LabelKind.book c.args.kind).meaning (map sign_of c.args.tokens.now) c.args.bad (g.K.LabelKind.book c.take-rows.new.kind).meaning told.0 told.1 c.in-Some.line c.in-Some.is
+    let told = c.in_ok-take_rows.ensures in
+    bad_declined g.K.Readable.format (g.K.LabelKind.book c.args.kind).meaning (map sign_of c.args.tokens.now) c.args.bad (g.K.LabelKind.book c.take_rows.new.kind).meaning told.0 told.1 c.in-Some.line c.in-Some.is
 
 pub returns : goal.returns
 returns g c =
-    let told = c.in-ok-take-rows.ensures in
-    many_declined g.K.Readable.format (g.K.LabelKind.book c.args.kind).meaning (map sign_of c.args.tokens.now) c.args.bad (g.K.LabelKind.book c.take-rows.new.kind).meaning told.0 told.1 c.in-default.is c.in-Err.ensures.0
+    let told = c.in_ok-take_rows.ensures in
+    many_declined g.K.Readable.format (g.K.LabelKind.book c.args.kind).meaning (map sign_of c.args.tokens.now) c.args.bad (g.K.LabelKind.book c.take_rows.new.kind).meaning told.0 told.1 c.in_default.is c.in-Err.ensures.0
 
 pub returns-in-Ok : goal.returns-in-Ok
 returns-in-Ok g c =
-    let told = c.in-ok-take-rows.ensures in
-    tabulated g.K.Readable.format (g.K.LabelKind.book c.args.kind).meaning (map sign_of c.args.tokens.now) c.args.bad (g.K.LabelKind.book c.take-rows.new.kind).meaning told.0 told.1 c.in-default.is c.atoms.new.table (string_bytes c.in-ok-print-table.field-0) c.in-Ok.ensures.0 c.in-ok-print-table.ensures
+    let told = c.in_ok-take_rows.ensures in
+    tabulated g.K.Readable.format (g.K.LabelKind.book c.args.kind).meaning (map sign_of c.args.tokens.now) c.args.bad (g.K.LabelKind.book c.take_rows.new.kind).meaning told.0 told.1 c.in_default.is c.atoms.new.table (string_bytes c.in_ok-print_table-in-Ok.field-0) c.in-Ok.ensures.0 c.in_ok-print_table-in-Ok.ensures

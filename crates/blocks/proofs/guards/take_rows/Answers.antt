@@ -1,4 +1,4 @@
-use Rattle.std.proofs.Common.{map, drop, sym, ap, subst, arith}
+use Rattle.std.proofs.Common.{map, drop, sym, subst, arith}
 use Rattle.std.proofs.lemmas.List.{drop_all}
 use Rattle.std.proofs.lemmas.Result.{err_from_is_err_and}
 use Rattle.text.specs.Tokens.{sign_of}
@@ -9,23 +9,23 @@ use Rattle.blocks.proofs.guards.take_rows.Goals as goal
 pub loop-at-init : goal.loop-at-init
 loop-at-init g c = (omega arith, none_read g.K.Readable.format (map sign_of c.args.tokens.now) (g.K.LabelKind.book c.args.kind.now) c.requires)
 
-pub returns-in-err-at : goal.returns-in-err-at
-returns-in-err-at g c =
-    let p = err_from_is_err_and c.from-residual.result c.from-residual.ensures.1 in
+pub returns-in_err-at : goal.returns-in_err-at
+returns-in_err-at g c =
+    let p = err_from_is_err_and c.from_residual.result c.from_residual.ensures.1 in
     let so_far = c.loop-at.invariant.1 in
-    rw (p.1, p.2) (one_refused g.K.Readable.format (g.K.LabelKind.book c.args.kind.now).meaning (map sign_of c.args.tokens.now) (g.K.LabelKind.book c.loop-at.kind) (map sign_of (drop c.loop-at.at c.args.tokens.now)) so_far c.in-err-at.field-0.0 (c.in-err-at.ensures so_far.count so_far.held))
+    rw (p.1, p.2) (one_refused g.K.Readable.format (g.K.LabelKind.book c.args.kind.now).meaning (map sign_of c.args.tokens.now) (g.K.LabelKind.book c.loop-at.kind) (map sign_of (drop c.loop-at.at c.args.tokens.now)) so_far c.in_err-at.field-0.0 (c.in_err-at.ensures so_far.count so_far.held))
 
 pub loop-at-smaller : goal.loop-at-smaller
 loop-at-smaller g c =
     let so_far = c.loop-at.invariant.1 in
-    let told = c.in-ok-at.ensures so_far.count so_far.held in
+    let told = c.in_ok-at.ensures so_far.count so_far.held in
     omega (arith, told.0, told.1)
 
 pub loop-at-preserved : goal.loop-at-preserved
 loop-at-preserved g c =
     let so_far = c.loop-at.invariant.1 in
-    let told = c.in-ok-at.ensures so_far.count so_far.held in
-    (told.0, one_read g.K.Readable.format (g.K.LabelKind.book c.args.kind.now).meaning (map sign_of c.args.tokens.now) (g.K.LabelKind.book c.loop-at.kind) (g.K.LabelKind.book c.take-row.new.kind) (map sign_of (drop c.loop-at.at c.args.tokens.now)) (map sign_of (drop c.in-ok-at.at c.args.tokens.now)) so_far told.2)
+    let told = c.in_ok-at.ensures so_far.count so_far.held in
+    (told.0, one_read g.K.Readable.format (g.K.LabelKind.book c.args.kind.now).meaning (map sign_of c.args.tokens.now) (g.K.LabelKind.book c.loop-at.kind) (g.K.LabelKind.book c.take_row.new.kind) (map sign_of (drop c.loop-at.at c.args.tokens.now)) (map sign_of (drop c.in_ok-at.at c.args.tokens.now)) so_far told.2)
 
 pub returns : goal.returns
 returns g c =

@@ -1,11 +1,11 @@
 use Rattle.blocks.proofs.Writing.{tag_misspelt, tag_written}
 use Rattle.blocks.proofs.kinds.TagsReadable.read_row.Goals as goal
 
-pub returns-in-default-number : goal.returns-in-default-number
-returns-in-default-number c = tag_misspelt c.in-Some.ensures.2 (λ r. c.in-default-number.ensures r.0)
+pub returns-in_default-number : goal.returns-in_default-number
+returns-in_default-number c = tag_misspelt c.in-Some.ensures.2 (λ r. c.in_default-number.ensures r.0)
 
-pub returns-in-default-number-2 : goal.returns-in-default-number-2
-returns-in-default-number-2 c = tag_misspelt c.in-Some.ensures.2 (λ r. c.in-default-number-2.ensures r.1)
+pub returns-in_default-number-2 : goal.returns-in_default-number-2
+returns-in_default-number-2 c = tag_misspelt c.in-Some.ensures.2 (λ r. c.in_default-number-2.ensures r.1)
 
 pub returns : goal.returns
 returns c =
