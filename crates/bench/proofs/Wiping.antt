@@ -1,7 +1,7 @@
 -- The workspace after its first cells were filled with 0.
 use Rattle.std.proofs.Common.{◌≡◌, ℕ, ◌<◌, ◌≤◌, min, List, ◌++◌, length, get_or, replicate, ap, ◌∙◌, ⊎_elim, arith, rules}
 use borrow.Rule.Slice.PartMut.{post_of}
-use Rattle.std.proofs.lemmas.List.{places, length-replicate, get_or_append_left, get_or_past}
+use Rattle.std.proofs.lemmas.List.{places, get_or_append_left, get_or_past}
 use Rattle.std.proofs.lemmas.Bool.{cases_lt}
 use Rattle.bench.proofs.Fresh.{zero_at}
 

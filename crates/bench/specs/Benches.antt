@@ -1,5 +1,5 @@
 -- The shelves of a bench, in the bytes that it is lent.
-use Rattle.std.specs.Prelude.{◌≡◌, ℕ, ◌+◌, ◌*◌, ◌/◌, ◌<◌, ◌≤◌, min, List, length, take, drop, slice_index}
+use Rattle.std.specs.Prelude.{◌≡◌, ℕ, ◌*◌, ◌/◌, ◌<◌, ◌≤◌, min, List, length, take, drop, slice_index}
 use Rattle.bench.specs.Shelves.{Sound, Fresh}
 
 -- how many shelves n bytes have place for, 8 at most

@@ -1,6 +1,6 @@
 -- An atom over the states of children.
 use Rattle.std.specs.Prelude.{ℕ, ◌<◌}
-use Rattle.trees.specs.Rounds.{Combination, nullary, unary, binary, Below}
+use Rattle.trees.specs.Rounds.{Combination, nullary, unary, binary}
 use Rattle.bench.specs.Shelves.{none_at, single_at, double_at}
 use Rattle.bench.specs.declared.children.Children.{Children}
 use Rattle.bench.specs.declared.children.Children.TheVariants.{No, One, Two}

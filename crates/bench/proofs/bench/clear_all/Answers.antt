@@ -7,7 +7,7 @@ loop-k-init c = none_cleared c.args.bytes.now
 
 pub loop-k-preserved : goal.loop-k-preserved
 loop-k-preserved c =
-    one_cleared c.args.bytes.now c.loop-k.bytes c.clear.new.shelf c.loop-k.k _ c.loop-k.invariant (omega (arith, c.shelves-in-k-end.ensures, c.loop-k.auto.bytes)) (omega arith) c.clear.ensures
+    one_cleared c.args.bytes.now c.loop-k.bytes c.clear.new.shelf c.loop-k.k _ c.loop-k.invariant (omega (arith, c.shelves_in-k-end.ensures, c.loop-k.auto.bytes)) (omega arith) c.clear.ensures
 
 pub returns : goal.returns
-returns c = all_cleared c.args.bytes.now c.loop-k.bytes c.loop-k.k (omega (arith, c.shelves-in-k-end.ensures)) c.loop-k.invariant
+returns c = all_cleared c.args.bytes.now c.loop-k.bytes c.loop-k.k (omega (arith, c.shelves_in-k-end.ensures)) c.loop-k.invariant

@@ -3,8 +3,8 @@ use Rattle.bench.proofs.Fresh.{fresh_sound}
 use Rattle.bench.specs.Benches.{shelf_at}
 use Rattle.bench.proofs.bench.Bench.open.Goals as goal
 
-pub invariant-of-result : goal.invariant-of-result
-invariant-of-result c =
-    let opened = c.clear-all.ensures in
+pub invariant_of-result : goal.invariant_of-result
+invariant_of-result c =
+    let opened = c.clear_all.ensures in
     let long = opened.long in
-    (λ k l. ∣ fresh_sound c.args.table.count c.args.table.some (shelf_at c.clear-all.new.bytes k) (opened.fresh k (omega arith)) ∣₁, tt)
+    record { sound = λ k l. ∣ fresh_sound c.args.table.count c.args.table.some (shelf_at c.clear_all.new.bytes k) (opened.fresh k (omega arith)) ∣₁ }
