@@ -1,5 +1,5 @@
 -- There are no more classes than places in their order.
-use Rattle.std.proofs.Common.{◌≡◌, ℕ, suc, ◌<◌, ◌≤◌, List, Decides, ap, arith}
+use Rattle.std.proofs.Common.{◌≡◌, ℕ, suc, ◌≤◌, List, Decides, ap, arith}
 use Rattle.std.proofs.lemmas.Bool.{ltb-true, eqb-true, eq-eqb}
 use Rattle.trees.specs.Automata.{Automaton}
 use Rattle.trees.proofs.Pigeonhole.{at_most}

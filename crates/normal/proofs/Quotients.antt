@@ -1,8 +1,8 @@
 -- The classes of states that nothing tells apart, numbered by rounds, are the normal form.
-use Rattle.std.proofs.Common.{◌≡◌, ℕ, ◌<◌, Bool, eqb, List, length, get_or, Decides, sym, refl, ap, ◌∙◌, subst, ⊎_elim, arith}
-use Rattle.std.proofs.lemmas.Bool.{cases_eq, ltb-true}
+use Rattle.std.proofs.Common.{◌≡◌, ℕ, ◌<◌, Bool, eqb, List, length, get_or, Decides, sym, refl, ap, ◌∙◌, subst, ⊎_elim}
+use Rattle.std.proofs.lemmas.Bool.{cases_eq}
 use Rattle.trees.specs.Automata.{Automaton, Complete, For, Reachable, run}
-use Rattle.trees.specs.Classes.{Separate, Stable, Tells, accept, single, left, right, Quotient}
+use Rattle.trees.specs.Classes.{Separate, Tells, accept, single, left, right, Quotient}
 use Rattle.trees.specs.Normal.{NormalForm}
 use Rattle.trees.specs.Rounds.{Combination}
 use Rattle.trees.specs.Trees.{Tree, leaf, one, two, Over, Language, letters}

@@ -1,5 +1,4 @@
-use Rattle.std.proofs.Common.{sym, ap, ◌∙◌, subst}
-use Rattle.explore.specs.Rounds.{entry_at}
+use Rattle.std.proofs.Common.{sym, ap, ◌∙◌}
 use Rattle.normal.proofs.listed.ListedTreeAutomaton.accepts.Goals as goal
 
 pub accepts-requires : goal.accepts-requires

@@ -1,5 +1,4 @@
-use Rattle.std.proofs.Common.{sym, ap, ◌∙◌, subst}
-use Rattle.explore.specs.Rounds.{entry_at}
+use Rattle.std.proofs.Common.{sym, ap, ◌∙◌}
 use Rattle.normal.proofs.listed.ListedTreeAutomaton.row.Goals as goal
 
 pub row-requires : goal.row-requires
