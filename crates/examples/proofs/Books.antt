@@ -8,11 +8,10 @@ use Rattle.std.proofs.lemmas.Bool.Decides.{nat_tests}
 use Rattle.std.specs.List.{range_with_len, AllByRecursion as All}
 use Rattle.atoms.specs.Atoms.{Lists, MoreThan}
 use Rattle.atoms.specs.declared.atom.Atom.{Atom}
-use Rattle.labels.specs.Ranges.{code_label, code_meaning, covered, in_range}
+use Rattle.labels.specs.Ranges.{code_meaning, covered, in_range}
 use Rattle.labels.specs.Tables.{empty}
 use Rattle.labels.specs.Sets.{has}
 use Rattle.labels.specs.declared.range.Given.{Given}
-use Rattle.labels.specs.declared.range.Range.{Range}
 use Rattle.labels.specs.declared.set.GuardSet.{GuardSet}
 use Rattle.labels.proofs.Bits.{has_none, has_one, has_or}
 use Rattle.examples.specs.Examples.{atoms_with, Holds, tag_meaning, own_guard}

@@ -5,7 +5,6 @@ use Rattle.labels.specs.Meaning.{Meaning, IsLeast}
 use Rattle.labels.specs.Ranges.{code_meaning}
 use Rattle.labels.specs.Tables.{table_meaning}
 use Rattle.labels.specs.declared.range.Given.{Given}
-use Rattle.labels.specs.declared.range.Range.{Range}
 use Rattle.atoms.specs.Atoms.{Lists, MoreThan}
 use Rattle.atoms.specs.declared.atom.Atom.{Atom}
 use Rattle.pairs.specs.Pairs.{pair_meaning}
