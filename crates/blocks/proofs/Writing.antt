@@ -4,7 +4,7 @@ use Rattle.std.proofs.ByRecursion.{IsAscii-from_all}
 use Rattle.std.proofs.lemmas.Str.{IsUtf8-from_ascii}
 use Rattle.std.proofs.lemmas.Bool.{and_parts, or_cases, eqb-true, cases_Bool}
 use Rattle.std.specs.Str.Parse.{digits_value}
-use Rattle.std.specs.List.{AllByRecursion as All}
+use Rattle.std.specs.List.{AllByRecursion}
 use Rattle.labels.specs.Patterns.{sign, signs, pattern_formed, matches}
 use Rattle.labels.specs.Ranges.{range_formed, in_range}
 use Rattle.text.specs.Numbers.{Numeral, HexNumeral}
@@ -57,7 +57,7 @@ module _ {ss rest : List Sign} {u v w : List ℕ} {n i j k : ℕ} (is : ss ≡ w
 
 -- ---- a word that is no text is no pattern
 
-signs_ascii : (cs : List ℕ) → signs cs ≡ true → All (λ c. c < 128) cs
+signs_ascii : (cs : List ℕ) → signs cs ≡ true → AllByRecursion (λ c. c < 128) cs
 signs_ascii [] h = tt
 signs_ascii (c ∷ cs) h =
     let parts = and_parts (sign c) (signs cs) h in

@@ -5,7 +5,7 @@ use Rattle.std.proofs.lemmas.List.FromFn.{get_or-map-range_with_len}
 use Rattle.std.proofs.lemmas.Nat.{pow_pos, pow_below}
 use Rattle.std.proofs.lemmas.Bool.{cases_lt, ltb-true, lt-ltb, le-ltb, cond-true, cond-false}
 use Rattle.std.proofs.lemmas.Bool.Decides.{nat_tests}
-use Rattle.std.specs.List.{range_with_len, AllByRecursion as All}
+use Rattle.std.specs.List.{range_with_len, AllByRecursion}
 use Rattle.atoms.specs.Atoms.{Lists, MoreThan}
 use Rattle.atoms.specs.declared.atom.Atom.{Atom}
 use Rattle.labels.specs.Ranges.{code_meaning, covered, in_range}
@@ -38,7 +38,7 @@ covered_set (r ∷ rs) x g =
 given_sets : (rs : List Given) (n : ℕ) → Sets (code_meaning rs n) (given_set rs)
 given_sets rs n x e g = covered_set rs x g ∙ sym (ap (λ b. b && covered rs g x) e)
 
-pub ranged : (rs : List Given) (n : ℕ) (xs : List ℕ) → Climbs xs → All (IsFirst (code_meaning rs n) (given_set rs)) xs → Whole (code_meaning rs n) (given_set rs) (λ k. get_or xs k 0) (length xs) → Holds (atoms_with (code_meaning rs n) xs)
+pub ranged : (rs : List Given) (n : ℕ) (xs : List ℕ) → Climbs xs → AllByRecursion (IsFirst (code_meaning rs n) (given_set rs)) xs → Whole (code_meaning rs n) (given_set rs) (λ k. get_or xs k 0) (length xs) → Holds (atoms_with (code_meaning rs n) xs)
 ranged rs n xs = listed (code_meaning rs n) (given_set rs) (given_sets rs n) xs
 
 -- ---- guards of tags

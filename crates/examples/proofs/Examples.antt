@@ -1,6 +1,6 @@
 -- Each example holds.
 use Rattle.std.proofs.Common.{◌≡◌, ℕ, ◌+◌, ◌*◌, ◌^◌, ◌≤◌, true, cond, eqb, ltb, sym, refl, ◌∙◌, subst, arith}
-use Rattle.std.specs.List.{AllByRecursion as All}
+use Rattle.std.specs.List.{AllByRecursion}
 use Rattle.std.proofs.lemmas.Bool.{both_ways, eqb-true}
 use Rattle.std.proofs.lemmas.Bool.Decides.{nat_tests}
 use Rattle.labels.specs.Meaning.{Meaning, Fits}
@@ -29,7 +29,7 @@ pair_least y f =
     let second = eqb-true z 3 (sym (has_if (eqb z 3) 0 0) ∙ tag_sets (one_tag 3) 1 z label 0 ∙ tag) in
     omega arith
 
-pub all_hold : All Holds examples
+pub all_hold : AllByRecursion Holds examples
 unfolding has
 all_hold = (
   ranged surrogates 1 _ (omega arith) ((refl, λ y l e. omega arith), tt) (λ x e. (0, omega arith, grind (arith, nat_tests))),

@@ -4,7 +4,7 @@ use Rattle.std.proofs.lemmas.List.FromFn.{get_or-map-range_with_len, fill_by_all
 use Rattle.std.proofs.ByRecursion.{All-get_or}
 use Rattle.std.proofs.lemmas.Simd.{map-map}
 use Rattle.std.proofs.lemmas.Bool.{cases_lt}
-use Rattle.std.specs.List.{range_with_len, AllByRecursion as All}
+use Rattle.std.specs.List.{range_with_len, AllByRecursion}
 use Rattle.labels.specs.Meaning.{Meaning}
 use Rattle.labels.specs.Sets.{has}
 use Rattle.labels.proofs.Bits.{same_by_bits}
@@ -74,7 +74,7 @@ module _ (m : Meaning) (set-of at : ℕ → ℕ) (sets : Sets m set-of) where
 -- each is below all that follow
 abbrev pub Climbs : List ℕ → Type 0
 Climbs [] = Unit {0}
-Climbs (x ∷ xs) = All (λ y. x < y) xs × Climbs xs
+Climbs (x ∷ xs) = AllByRecursion (λ y. x < y) xs × Climbs xs
 
 climbs_far : (xs : List ℕ) → Climbs xs → (i j : ℕ) → i < j → j < length xs → get_or xs i 0 < get_or xs j 0
 climbs_far [] c i j l h = absurd (omega arith)
@@ -86,7 +86,7 @@ climbs_far (x ∷ xs) c (suc i) (suc j) l h = climbs_far xs c.1 i j (omega arith
 abbrev pub IsFirst : Meaning → (ℕ → ℕ) → ℕ → Type 0
 IsFirst m set-of x = (m.label x ≡ true) × ((y : ℕ) → y < x → set-of y ≡ set-of x → ⊥)
 
-pub listed : (m : Meaning) (set-of : ℕ → ℕ) → Sets m set-of → (xs : List ℕ) → Climbs xs → All (IsFirst m set-of) xs → Whole m set-of (λ k. get_or xs k 0) (length xs) → Holds (atoms_with m xs)
+pub listed : (m : Meaning) (set-of : ℕ → ℕ) → Sets m set-of → (xs : List ℕ) → Climbs xs → AllByRecursion (IsFirst m set-of) xs → Whole m set-of (λ k. get_or xs k 0) (length xs) → Holds (atoms_with m xs)
 listed m set-of sets xs climbs firsts whole =
     let at : ℕ → ℕ = λ k. get_or xs k 0 in
     let found = all_atoms m set-of at sets (length xs) (record {

@@ -1,6 +1,6 @@
 -- How a line is cut into words. Assumes nothing.
 use Rattle.std.proofs.Common.{◌≡◌, ℕ, ◌<◌, ◌≤◌, ◌⊎◌, List, [], ◌∷◌, ◌++◌, map, length, get_or, take, drop, sym, refl, ap, ◌∙◌, subst, subst₂, inl, inr, append_assoc, append-nil, add-zero, arith, length-append}
-use Rattle.std.specs.List.{AllByRecursion as All, between}
+use Rattle.std.specs.List.{AllByRecursion, between}
 use Rattle.std.proofs.ByRecursion.{All-push}
 use Rattle.std.proofs.lemmas.List.{map_push, get_or-drop, length-drop, take-append-drop}
 use Rattle.std.proofs.lemmas.Slice.{first_rest}
@@ -12,7 +12,7 @@ abbrev pub Stops : List ℕ → Type 0
 Stops text = 0 < length text → Visible (get_or text 0 0) → ⊥
 
 -- a text begins with one longest run of a word's bytes
-same_run : (xs ys us vs : List ℕ) → All Visible xs → All Visible ys → Stops us → Stops vs → xs ++ us ≡ ys ++ vs → (xs ≡ ys) × (us ≡ vs)
+same_run : (xs ys us vs : List ℕ) → AllByRecursion Visible xs → AllByRecursion Visible ys → Stops us → Stops vs → xs ++ us ≡ ys ++ vs → (xs ≡ ys) × (us ≡ vs)
 same_run [] [] us vs hx hy hu hv e = (refl, e)
 same_run [] (y ∷ ys) us vs hx hy hu hv e = absurd (subst Stops e hu (omega arith) hy.0)
 same_run (x ∷ xs) [] us vs hx hy hu hv e = absurd (subst Stops (sym e) hv (omega arith) hx.0)
@@ -24,7 +24,7 @@ same_run (x ∷ xs) (y ∷ ys) us vs hx hy hu hv e =
     (cc, p.1)
 
 -- the first word of a line of words, and what follows it
-peel : (xs ys : List ℕ) (ws : List (List ℕ)) (rest : List ℕ) → All Visible xs → Stops ys → Words ws → xs ++ ys ≡ spaced ws ++ 10 ∷ rest
+peel : (xs ys : List ℕ) (ws : List (List ℕ)) (rest : List ℕ) → AllByRecursion Visible xs → Stops ys → Words ws → xs ++ ys ≡ spaced ws ++ 10 ∷ rest
     → (0 < length xs) × ((ys ≡ 10 ∷ rest) ⊎ ((vs : List (List ℕ)) × (Words vs × (ys ≡ 32 ∷ (spaced vs ++ 10 ∷ rest)))))
 peel xs ys [] rest hx hy h e = absurd (omega arith)
 peel xs ys (w ∷ []) rest hx hy h e =
@@ -53,7 +53,7 @@ spaced_push (v ∷ []) w = refl
 spaced_push (v ∷ u ∷ ws) w = ap (λ (l : List ℕ). v ++ 32 ∷ l) (spaced_push (u ∷ ws) w)
 
 -- where the rest of a line is not one of words, the line is not
-no_words_led : (ws : List (List ℕ)) (rest : List ℕ) → All GoodWord ws → NoWords rest → NoWords (led ws rest)
+no_words_led : (ws : List (List ℕ)) (rest : List ℕ) → AllByRecursion GoodWord ws → NoWords rest → NoWords (led ws rest)
 no_words_led [] rest h no-rest vs after good e = no-rest vs after good e
 no_words_led (w ∷ ws) rest h no-rest vs after good e =
     let inner = no_words_led ws rest h.1 no-rest in
@@ -63,7 +63,7 @@ no_words_led (w ∷ ws) rest h no-rest vs after good e =
     ]
 
 -- a line of words goes on after its first word with a space or a line feed
-pub no_words_stuck : (xs ys : List ℕ) → All Visible xs → Stops ys → (0 < length xs → (get_or ys 0 0 ≡ 10 → ⊥) × (get_or ys 0 0 ≡ 32 → ⊥)) → NoWords (xs ++ ys)
+pub no_words_stuck : (xs ys : List ℕ) → AllByRecursion Visible xs → Stops ys → (0 < length xs → (get_or ys 0 0 ≡ 10 → ⊥) × (get_or ys 0 0 ≡ 32 → ⊥)) → NoWords (xs ++ ys)
 no_words_stuck xs ys hx hy other ws rest good e =
     let p = peel xs ys ws rest hx hy good e in
     let q = other p.0 in
@@ -75,13 +75,13 @@ no_words_stuck xs ys hx hy other ws rest good e =
 -- the rest begins with the longest run of a word's bytes
 pub record Front (rest w after : List ℕ) : Type 0 where
   pub split : rest ≡ w ++ after
-  pub visible : All Visible w
+  pub visible : AllByRecursion Visible w
   pub stops : Stops after
 
-pub front_at : (rest w after : List ℕ) (k : ℕ) → k ≤ length rest → All Visible (take k rest) → (k < length rest → Visible (get_or rest k 0) → ⊥) → w ≡ take k rest → after ≡ drop k rest → Front rest w after
+pub front_at : (rest w after : List ℕ) (k : ℕ) → k ≤ length rest → AllByRecursion Visible (take k rest) → (k < length rest → Visible (get_or rest k 0) → ⊥) → w ≡ take k rest → after ≡ drop k rest → Front rest w after
 front_at rest w after k within visible stops front back = record {
   split = sym (take-append-drop k rest) ∙ (λ i. sym front i ++ sym back i);
-  visible = subst (All Visible) (sym front) visible;
+  visible = subst (AllByRecursion Visible) (sym front) visible;
   stops = λ some is. stops (omega (arith, ap length back, length-drop k rest)) (subst Visible (ap (λ (l : List ℕ). get_or l 0 0) back ∙ get_or-drop k rest 0 0 ∙ ap (λ (i : ℕ). get_or rest i 0) (add-zero k)) is);
 }
 
@@ -93,7 +93,7 @@ first_is after b some is = first_rest after 0 some ∙ ap (λ (x : ℕ). x ∷ b
 pub record Pushing (n : ℕ) (text rest : List ℕ) (before since : List Token) : Type 0 where
   pub ws : List (List ℕ)
   pub more : List Token
-  pub good : All GoodWord ws
+  pub good : AllByRecursion GoodWord ws
   pub cut : text ≡ led ws rest
   pub added : since ≡ before ++ more
   pub gives : map sign_of more ≡ map (λ w. word w n) ws
@@ -113,7 +113,7 @@ module _ (n : ℕ) (text rest : List ℕ) (before since : List Token) (h : Pushi
     one_given : map sign_of (h.more ++ t ∷ []) ≡ map (λ w. word w n) (h.ws ++ w ∷ [])
     one_given = map_push sign_of h.more t ∙ (λ i. h.gives i ++ is i ∷ []) ∙ sym (map_push (λ w. word w n) h.ws w)
 
-    one_good : All GoodWord (h.ws ++ w ∷ [])
+    one_good : AllByRecursion GoodWord (h.ws ++ w ∷ [])
     one_good = All-push GoodWord h.ws w h.good (some, f.visible)
 
     -- a word and a space are cut off

@@ -3,7 +3,7 @@ use Rattle.std.proofs.Common.{◌≡◌, ℕ, suc, ◌+◌, ◌*◌, ◌^◌, �
 use native.Mathlib.Nat.{pow-succ', one-le-pow}
 use Rattle.std.specs.Str.Parse.{digits_value, digits_value_after}
 use Rattle.std.specs.Char.{digit_value}
-use Rattle.std.specs.List.{AllByRecursion as All, between}
+use Rattle.std.specs.List.{AllByRecursion, between}
 use Rattle.std.proofs.ByRecursion.{All-more, All-get_or}
 use Rattle.std.proofs.lemmas.List.{drop_more, at_drop_more, at_drop_all, take_all}
 use Rattle.std.proofs.lemmas.Slice.{first_rest}
@@ -12,7 +12,7 @@ use Rattle.text.specs.Numbers.{DigitOf, Numeral}
 
 -- the first i digits of the word are read, n is the number that they write, and there is room for the rest
 pub record Read (base before : ℕ) (word : List ℕ) (i n : ℕ) : Type 0 where
-  pub digits : All (DigitOf base) (take i word)
+  pub digits : AllByRecursion (DigitOf base) (take i word)
   pub same : digits_value_after base n (drop i word) ≡ digits_value_after base before word
   pub room : (n + 1) * base ^ length (drop i word) ≤ 2 ^ 32
 
@@ -45,8 +45,8 @@ module _ (base before : ℕ) (word : List ℕ) where
     unfolding next
     read_fits = omega (arith, room_more, le-mul_of_pos_right (next + 1) (one-le-pow (length (drop (i + 1) word)) base (omega (arith, is.1))))
 
-  pub read_all : (i n : ℕ) → length word ≤ i → Read base before word i n → All (DigitOf base) word × (n ≡ digits_value_after base before word)
-  read_all i n end h = (subst (All (DigitOf base)) (take_all i word end) h.digits, sym (at_drop_all (digits_value_after base n) word i end) ∙ h.same)
+  pub read_all : (i n : ℕ) → length word ≤ i → Read base before word i n → AllByRecursion (DigitOf base) word × (n ≡ digits_value_after base before word)
+  read_all i n end h = (subst (AllByRecursion (DigitOf base)) (take_all i word end) h.digits, sym (at_drop_all (digits_value_after base n) word i end) ∙ h.same)
 
 pub lone_zero : (word : List ℕ) → length word ≡ 1 → get_or word 0 0 ≡ 48 → Numeral word × (0 ≡ digits_value 10 word)
 lone_zero [] one is = absurd (omega arith)

@@ -1,6 +1,6 @@
 -- What the tokens of a text are. Assumes nothing.
 use Rattle.std.specs.Prelude.{◌≡◌, ℕ, ◌+◌, ◌<◌, ◌≤◌, List, [], ◌∷◌, ◌++◌, map, length, Some, None, Option, ◌≢◌, slice_index_or}
-use Rattle.std.specs.List.{AllByRecursion as All}
+use Rattle.std.specs.List.{AllByRecursion}
 use Rattle.text.specs.declared.token.Token.{Token}
 use Rattle.text.specs.declared.token.Token.TheVariants.{Word, LineEnd, BlockEnd}
 
@@ -27,11 +27,11 @@ Visible c = (33 ≤ c) × (c ≤ 126)
 
 -- one byte or more
 abbrev pub GoodWord : List ℕ → Type 0
-GoodWord w = (0 < length w) × All Visible w
+GoodWord w = (0 < length w) × AllByRecursion Visible w
 
 -- the words of a line: at least one
 abbrev pub Words : List (List ℕ) → Type 0
-Words ws = (0 < length ws) × All GoodWord ws
+Words ws = (0 < length ws) × AllByRecursion GoodWord ws
 
 -- the words with one space between neighbours
 abbrev pub spaced : List (List ℕ) → List ℕ

@@ -2,7 +2,7 @@
 ghost use Rattle.std.specs.Prelude.{◌≡◌, ◌+◌, ◌*◌, ◌^◌, ◌≤◌, ◌∷◌, length, MatchOption};
 ghost use Rattle.std.specs.Str.Parse.{digits_value, digits_value_after};
 ghost use Rattle.std.specs.Char.{digit_value};
-ghost use Rattle.std.specs.List.{AllByRecursion as All};
+ghost use Rattle.std.specs.List.{AllByRecursion};
 ghost use Rattle.text.specs.Numbers.{DigitOf, Numeral, HexNumeral};
 
 // The value of a digit of the base, a letter in upper case.
@@ -22,7 +22,7 @@ fn digit(base: u32, c: u8) -> Option<u32>
 fn digits_after(base: u32, before: u32, word: &[u8]) -> Option<u32>
     requires base { base ≤ 16 }
     requires room { (before + 1) * base ^ length word.now ≤ 2 ^ 32 }
-    ensures { MatchOption result (All (DigitOf base) word.now → ⊥) (λ n. All (DigitOf base) word.now × (n ≡ digits_value_after base before word.now)) }
+    ensures { MatchOption result (AllByRecursion (DigitOf base) word.now → ⊥) (λ n. AllByRecursion (DigitOf base) word.now × (n ≡ digits_value_after base before word.now)) }
 {
     let mut n = before;
     for c in word {

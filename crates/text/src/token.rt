@@ -1,6 +1,6 @@
 // The tokens of a text: words, line ends and block ends, each with the number of its line.
 ghost use Rattle.std.specs.Prelude.{◌≡◌, ◌<◌, ◌≤◌, List, ◌++◌, map, length, take, IfOk, MatchOption, slice_index};
-ghost use Rattle.std.specs.List.{AllByRecursion as All};
+ghost use Rattle.std.specs.List.{AllByRecursion};
 ghost use Rattle.text.specs.Tokens.{Visible, NoWords, Bad, LineAdded, Scanned, sign_of, line_of};
 
 use std::alloc::{AllocError, Global};
@@ -36,7 +36,7 @@ impl Token<'_> {
 // How many bytes at the front belong to a word.
 fn word_len(text: &[u8]) -> usize
     ensures within { result ≤ length text.now }
-    ensures visible { All Visible (take result text.now) }
+    ensures visible { AllByRecursion Visible (take result text.now) }
     ensures stops { result < length text.now → Visible (slice_index text.now result) → ⊥ }
 {
     for (i, c) in text.iter().enumerate() {
