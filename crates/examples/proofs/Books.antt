@@ -43,10 +43,10 @@ ranged rs n xs = listed (code_meaning rs n) (given_set rs) (given_sets rs n) xs
 
 -- ---- guards of tags
 
-pub tag_sets : (set-of : ℕ → ℕ) (n : ℕ) → Sets (tag_meaning set-of n) set-of
-tag_sets set-of n x e g =
+pub tag_sets : (set_of : ℕ → ℕ) (n : ℕ) → Sets (tag_meaning set_of n) set_of
+tag_sets set_of n x e g =
     let small = ltb-true x 64 e in
-    let entry : ℕ → GuardSet = λ y. record { 0 = set-of y } in
+    let entry : ℕ → GuardSet = λ y. record { 0 = set_of y } in
     sym (ap₂ (λ b (s : GuardSet). b && has s.0 g) e (get_or-map-range_with_len entry 0 64 x x empty small (omega arith)))
 
 module _ (n : ℕ) (small : n < 64) where

@@ -16,20 +16,20 @@ use Rattle.examples.specs.Examples.{atoms_with, Holds}
 
 -- the set of the guards that hold of each label
 abbrev pub Sets : Meaning → (ℕ → ℕ) → Type 0
-Sets m set-of = (x : ℕ) → m.label x ≡ true → (g : ℕ) → has (set-of x) g ≡ m.holds g x
+Sets m set_of = (x : ℕ) → m.label x ≡ true → (g : ℕ) → has (set_of x) g ≡ m.holds g x
 
 -- the labels at 0 to at (n - 1) rise, and each is the first with its set
-pub record Firsts (m : Meaning) (set-of at : ℕ → ℕ) (n : ℕ) : Type 0 where
+pub record Firsts (m : Meaning) (set_of at : ℕ → ℕ) (n : ℕ) : Type 0 where
   pub label : (k : ℕ) → k < n → m.label (at k) ≡ true
   pub rises : (i j : ℕ) → i < j → j < n → at i < at j
-  pub first : (k y : ℕ) → k < n → y < at k → set-of y ≡ set-of (at k) → ⊥
+  pub first : (k y : ℕ) → k < n → y < at k → set_of y ≡ set_of (at k) → ⊥
 
 -- each label has the set of one of them
 abbrev pub Whole : Meaning → (ℕ → ℕ) → (ℕ → ℕ) → ℕ → Type 0
-Whole m set-of at n = (x : ℕ) → m.label x ≡ true → (k : ℕ) × (k < n) × (set-of x ≡ set-of (at k))
+Whole m set_of at n = (x : ℕ) → m.label x ≡ true → (k : ℕ) × (k < n) × (set_of x ≡ set_of (at k))
 
-module _ (m : Meaning) (set-of at : ℕ → ℕ) (sets : Sets m set-of) where
-  pub more_than : (n : ℕ) → Firsts m set-of at (n + 1) → MoreThan n m
+module _ (m : Meaning) (set_of at : ℕ → ℕ) (sets : Sets m set_of) where
+  pub more_than : (n : ℕ) → Firsts m set_of at (n + 1) → MoreThan n m
   more_than n f = record {
     at = at;
     label = λ k h. f.label k (omega arith);
@@ -39,16 +39,16 @@ module _ (m : Meaning) (set-of at : ℕ → ℕ) (sets : Sets m set-of) where
   }
 
   abbrev atom : ℕ → Atom
-  atom k = atom_of (at k) (set-of (at k))
+  atom k = atom_of (at k) (set_of (at k))
 
-  module _ (n : ℕ) (f : Firsts m set-of at n) (whole : Whole m set-of at n) where
+  module _ (n : ℕ) (f : Firsts m set_of at n) (whole : Whole m set_of at n) where
     abbrev found : List Atom
     found = map atom (range_with_len 0 n)
 
     at_place : (k : ℕ) → k < n → atom_at found k ≡ atom k
     at_place k h = get_or-map-range_with_len atom 0 n k k blank h (omega arith)
 
-    is_atom : (k : ℕ) → k < n → IsAtom m (set-of (at k)) (at k)
+    is_atom : (k : ℕ) → k < n → IsAtom m (set_of (at k)) (at k)
     is_atom k h = record {
       exact = record { label = f.label k h; guards = sets (at k) (f.label k h) };
       least = λ y e. ⊎_elim (λ l. absurd (f.first k y h l (same_by_bits _ _ (λ g. sets y e.label g ∙ sym (e.guards g))))) (λ l. l) (cases_lt y (at k));
@@ -84,14 +84,14 @@ climbs_far (x ∷ xs) c (suc i) (suc j) l h = climbs_far xs c.1 i j (omega arith
 
 -- a label, and the first with its set
 abbrev pub IsFirst : Meaning → (ℕ → ℕ) → ℕ → Type 0
-IsFirst m set-of x = (m.label x ≡ true) × ((y : ℕ) → y < x → set-of y ≡ set-of x → ⊥)
+IsFirst m set_of x = (m.label x ≡ true) × ((y : ℕ) → y < x → set_of y ≡ set_of x → ⊥)
 
-pub listed : (m : Meaning) (set-of : ℕ → ℕ) → Sets m set-of → (xs : List ℕ) → Climbs xs → AllByRecursion (IsFirst m set-of) xs → Whole m set-of (λ k. get_or xs k 0) (length xs) → Holds (atoms_with m xs)
-listed m set-of sets xs climbs firsts whole =
+pub listed : (m : Meaning) (set_of : ℕ → ℕ) → Sets m set_of → (xs : List ℕ) → Climbs xs → AllByRecursion (IsFirst m set_of) xs → Whole m set_of (λ k. get_or xs k 0) (length xs) → Holds (atoms_with m xs)
+listed m set_of sets xs climbs firsts whole =
     let at : ℕ → ℕ = λ k. get_or xs k 0 in
-    let found = all_atoms m set-of at sets (length xs) (record {
-      label = λ k h. (All-get_or (IsFirst m set-of) xs k 0 h firsts).0;
+    let found = all_atoms m set_of at sets (length xs) (record {
+      label = λ k h. (All-get_or (IsFirst m set_of) xs k 0 h firsts).0;
       rises = climbs_far xs climbs;
-      first = λ k y h. (All-get_or (IsFirst m set-of) xs k 0 h firsts).1 y;
+      first = λ k y h. (All-get_or (IsFirst m set_of) xs k 0 h firsts).1 y;
     }) whole in
     (found.0, found.1, found.2 ∙ sym (fill_by_all at xs (length xs) 0 refl (λ k h. refl)))

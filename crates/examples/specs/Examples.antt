@@ -38,7 +38,7 @@ overlapping = range 0 0x41 0x5A ∷ range 1 0x50 0x60 ∷ []
 
 -- n guards of the 64 tags, by the set of those that hold of each tag
 abbrev pub tag_meaning : (ℕ → ℕ) → ℕ → Meaning
-tag_meaning set-of n = table_meaning (map (λ x. record { 0 = set-of x }) (range_with_len 0 64)) n
+tag_meaning set_of n = table_meaning (map (λ x. record { 0 = set_of x }) (range_with_len 0 64)) n
 
 -- guard g = tag g, for each g below n
 abbrev pub own_guard : ℕ → ℕ → ℕ
