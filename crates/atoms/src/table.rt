@@ -1,5 +1,5 @@
 // The table of a guard book's atoms.
-ghost use Rattle.std.specs.Prelude.{◌≡◌, ℕ, ◌<◌, ◌≤◌, true, length, ◌≢◌};
+ghost use Rattle.std.specs.Prelude.{◌≡◌, ℕ, ◌<◌, ◌≤◌, true, length, take, ◌≢◌};
 ghost use Rattle.labels.specs.Sets.{has};
 ghost use Rattle.atoms.specs.Entries.{label_at, set_at, Sound, Unwritten, AtomAt};
 
@@ -71,14 +71,17 @@ impl AtomTable {
         self.guards
     }
 
+    // The atoms, by rising label.
+    pub fn as_slice(&self) -> &[Atom]
+        ensures { result.now ≡ take self.now.count self.now.atoms }
+    {
+        &self.atoms[..self.count]
+    }
+
     // The atom at place k; none past the last.
     pub fn atom(&self, k: usize) -> Option<Atom>
         ensures { AtomAt self.now.atoms self.now.count k result }
     {
-        if k < self.count {
-            Some(self.atoms[k])
-        } else {
-            None
-        }
+        self.as_slice().get(k).copied()
     }
 }

@@ -3,7 +3,7 @@ ghost use Rattle.std.specs.Prelude.{◌≡◌, ℕ, min, true, false, not, ◌&&
 ghost use Rattle.labels.specs.Sets.{has, Between};
 
 // Guard g is in the set where bit g is 1.
-#[derive(Clone, Copy)]
+#[derive(Clone, Copy, Debug, Default, PartialEq, Eq)]
 pub struct GuardSet(pub u32);
 
 impl GuardSet {
