@@ -2,6 +2,7 @@
 ghost use Rattle.std.specs.Prelude.{◌≡◌, ℕ, ◌+◌, ◌<◌, ◌≤◌, length, IfOk, vec_len, vec_capacity, Decides, nat_le};
 ghost use Rattle.labels.specs.Edges.{AtMost, Tried};
 ghost use Rattle.labels.specs.Meaning.{Fresh, IsLeast};
+ghost use Rattle.labels.specs.Laws.{code_lawful, code_narrow};
 ghost use Rattle.labels.specs.Ranges.{Told, code_label, code_meaning, given_at, in_range, range_formed};
 
 use crate::kind::{AddFault, LabelKind, NarrowKind};
@@ -41,8 +42,6 @@ impl LabelKind for CodePoints {
 
     ghost book = { λ k. record { meaning = code_meaning k.ranges.items k.guards; formed = range_formed; labels = in_range; full = λ gs _. nat_le 64 (vec_len k.ranges + length gs) } };
 
-    fn lawful(&self) {}
-
     fn count(&self) -> u32 {
         self.guards
     }
@@ -79,12 +78,16 @@ impl LabelKind for CodePoints {
         self.guards = self.guards.max(guard + 1);
         Ok(())
     }
+
+    ghost lawful = { λ k. code_lawful k.ranges.items k.guards k.few k.known };
 }
 
 impl NarrowKind for CodePoints {
     fn largest(&self) -> u32 {
         LAST
     }
+
+    ghost narrow = { λ k. code_narrow };
 }
 
 // The least label that fits. It is 0, or lies where a range begins, or where one has ended: elsewhere nothing changes.
