@@ -1,7 +1,6 @@
-use Rattle.std.proofs.Common.{◌≡◌, ℕ, Bool, false, ◌&&◌, ap, ap₂, ◌∙◌, arith}
+use Rattle.std.proofs.Common.{◌≡◌, ℕ, Bool, false, ◌&&◌, ap, arith}
 use Rattle.std.proofs.lemmas.Grind.{common_steps}
 use Rattle.labels.specs.Adding.{Added, Book}
-use Rattle.pairs.specs.Pairs.{both_hold, pair_label}
 use Rattle.pair_tests.proofs.books.crossed.Goals as goal
 
 -- what the guards 1 and 2 hold of, once the guards 0, 1 and 2 were given a value each
