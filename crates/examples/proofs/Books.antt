@@ -5,6 +5,8 @@ use Rattle.std.proofs.lemmas.List.FromFn.{get_or-map-range_with_len}
 use Rattle.std.proofs.lemmas.Nat.{pow_pos, pow_below}
 use Rattle.std.proofs.lemmas.Bool.{cases_lt, ltb-true, lt-ltb, le-ltb, cond-true, cond-false}
 use Rattle.std.proofs.lemmas.Bool.Decides.{nat_tests}
+use Rattle.std.proofs.lemmas.List.Elements.{All-from_recursion}
+use Rattle.std.specs.List.Sorted.{IsStrictlyIncreasing}
 use Rattle.std.specs.List.{range_with_len, AllByRecursion}
 use Rattle.atoms.specs.Atoms.{Lists, MoreThan}
 use Rattle.atoms.specs.declared.atom.Atom.{Atom}
@@ -15,7 +17,7 @@ use Rattle.labels.specs.declared.range.Given.{Given}
 use Rattle.labels.specs.declared.set.GuardSet.{GuardSet}
 use Rattle.labels.proofs.Bits.{has_none, has_one, has_or}
 use Rattle.examples.specs.Examples.{atoms_with, Holds, tag_meaning, own_guard}
-use Rattle.examples.proofs.Firsts.{Sets, Firsts, Whole, more_than, all_atoms, Climbs, IsFirst, listed}
+use Rattle.examples.proofs.Firsts.{Sets, Firsts, Whole, more_than, all_atoms, IsFirst, listed}
 
 -- guard h alone, or none
 pub has_if : (b : Bool) (h g : ℕ) → has (cond b (2 ^ h) 0) g ≡ (eqb g h && b)
@@ -38,8 +40,8 @@ covered_set (r ∷ rs) x g =
 given_sets : (rs : List Given) (n : ℕ) → Sets (code_meaning rs n) (given_set rs)
 given_sets rs n x e g = covered_set rs x g ∙ sym (ap (λ b. b && covered rs g x) e)
 
-pub ranged : (rs : List Given) (n : ℕ) (xs : List ℕ) → Climbs xs → AllByRecursion (IsFirst (code_meaning rs n) (given_set rs)) xs → Whole (code_meaning rs n) (given_set rs) (λ k. get_or xs k 0) (length xs) → Holds (atoms_with (code_meaning rs n) xs)
-ranged rs n xs = listed (code_meaning rs n) (given_set rs) (given_sets rs n) xs
+pub ranged : (rs : List Given) (n : ℕ) (xs : List ℕ) → IsStrictlyIncreasing xs → AllByRecursion (IsFirst (code_meaning rs n) (given_set rs)) xs → Whole (code_meaning rs n) (given_set rs) (λ k. get_or xs k 0) (length xs) → Holds (atoms_with (code_meaning rs n) xs)
+ranged rs n xs rising firsts = listed (code_meaning rs n) (given_set rs) (given_sets rs n) xs rising (All-from_recursion (IsFirst (code_meaning rs n) (given_set rs)) xs firsts)
 
 -- ---- guards of tags
 

@@ -1,6 +1,6 @@
 -- Each example holds.
-use Rattle.std.proofs.Common.{◌≡◌, ℕ, ◌+◌, ◌*◌, ◌^◌, ◌≤◌, true, cond, eqb, ltb, sym, refl, ◌∙◌, subst, arith}
-use Rattle.std.specs.List.{AllByRecursion}
+use Rattle.std.proofs.Common.{◌≡◌, ℕ, ◌+◌, ◌*◌, ◌^◌, ◌≤◌, true, cond, All, eqb, ltb, sym, refl, ◌∙◌, subst, arith}
+use Rattle.std.proofs.lemmas.List.Elements.{All-from_recursion}
 use Rattle.std.proofs.lemmas.Bool.{both_ways, eqb-true}
 use Rattle.std.proofs.lemmas.Bool.Decides.{nat_tests}
 use Rattle.labels.specs.Meaning.{Meaning, Fits}
@@ -29,12 +29,12 @@ pair_least y f =
     let second = eqb-true z 3 (sym (has_if (eqb z 3) 0 0) ∙ tag_sets (one_tag 3) 1 z label 0 ∙ tag) in
     omega arith
 
-pub all_hold : AllByRecursion Holds examples
+pub all_hold : All Holds examples
 unfolding has
-all_hold = (
+all_hold = All-from_recursion Holds examples (
   ranged surrogates 1 _ (omega arith) ((refl, λ y l e. omega arith), tt) (λ x e. (0, omega arith, grind (arith, nat_tests))),
   (
-    ranged overlapping 2 _ (omega arith)
+    ranged overlapping 2 _ (λ k h. grind arith)
         ((refl, λ y l e. omega arith), ((refl, λ y l e. grind (arith, nat_tests)), ((refl, λ y l e. grind (arith, nat_tests)), ((refl, λ y l e. grind (arith, nat_tests)), tt))))
         -- from 97 on no guard holds, as below 65
         (λ x e. (cond (ltb x 65) 0 (cond (ltb x 80) 1 (cond (ltb x 91) 2 (cond (ltb x 97) 3 0))), grind (arith, nat_tests), grind (arith, nat_tests))),

@@ -1,10 +1,11 @@
 -- The atoms of a meaning by the set of the guards of each label.
-use Rattle.std.proofs.Common.{◌≡◌, ℕ, zero, suc, ◌+◌, ◌<◌, true, List, [], ◌∷◌, map, length, get_or, sym, refl, ap, ◌∙◌, subst, ⊎_elim, arith}
+use Rattle.std.proofs.Common.{◌≡◌, ℕ, ◌+◌, ◌<◌, true, All, List, map, length, get_or, sym, refl, ap, ◌∙◌, subst, ⊎_elim, arith}
 use Rattle.std.proofs.lemmas.List.FromFn.{get_or-map-range_with_len, fill_by_all}
-use Rattle.std.proofs.ByRecursion.{All-get_or}
+use Rattle.std.proofs.lemmas.List.Kept.{AllPairs-from_increasing}
 use Rattle.std.proofs.lemmas.Simd.{map-map}
 use Rattle.std.proofs.lemmas.Bool.{cases_lt}
-use Rattle.std.specs.List.{range_with_len, AllByRecursion}
+use Rattle.std.specs.List.{range_with_len}
+use Rattle.std.specs.List.Sorted.{IsStrictlyIncreasing}
 use Rattle.labels.specs.Meaning.{Meaning}
 use Rattle.labels.specs.Sets.{has}
 use Rattle.labels.proofs.Bits.{same_by_bits}
@@ -71,27 +72,16 @@ module _ (m : Meaning) (set_of at : ℕ → ℕ) (sets : Sets m set_of) where
 
 -- ---- labels that are written out
 
--- each is below all that follow
-abbrev pub Climbs : List ℕ → Type 0
-Climbs [] = Unit {0}
-Climbs (x ∷ xs) = AllByRecursion (λ y. x < y) xs × Climbs xs
-
-climbs_far : (xs : List ℕ) → Climbs xs → (i j : ℕ) → i < j → j < length xs → get_or xs i 0 < get_or xs j 0
-climbs_far [] c i j l h = absurd (omega arith)
-climbs_far (x ∷ xs) c i zero l h = absurd (omega arith)
-climbs_far (x ∷ xs) c zero (suc j) l h = All-get_or (λ y. x < y) xs j 0 (omega arith) c.0
-climbs_far (x ∷ xs) c (suc i) (suc j) l h = climbs_far xs c.1 i j (omega arith) (omega arith)
-
 -- a label, and the first with its set
 abbrev pub IsFirst : Meaning → (ℕ → ℕ) → ℕ → Type 0
 IsFirst m set_of x = (m.label x ≡ true) × ((y : ℕ) → y < x → set_of y ≡ set_of x → ⊥)
 
-pub listed : (m : Meaning) (set_of : ℕ → ℕ) → Sets m set_of → (xs : List ℕ) → Climbs xs → AllByRecursion (IsFirst m set_of) xs → Whole m set_of (λ k. get_or xs k 0) (length xs) → Holds (atoms_with m xs)
-listed m set_of sets xs climbs firsts whole =
+pub listed : (m : Meaning) (set_of : ℕ → ℕ) → Sets m set_of → (xs : List ℕ) → IsStrictlyIncreasing xs → All (IsFirst m set_of) xs → Whole m set_of (λ k. get_or xs k 0) (length xs) → Holds (atoms_with m xs)
+listed m set_of sets xs rising firsts whole =
     let at : ℕ → ℕ = λ k. get_or xs k 0 in
     let found = all_atoms m set_of at sets (length xs) (record {
-      label = λ k h. (All-get_or (IsFirst m set_of) xs k 0 h firsts).0;
-      rises = climbs_far xs climbs;
-      first = λ k y h. (All-get_or (IsFirst m set_of) xs k 0 h firsts).1 y;
+      label = λ k h. (firsts k 0 h).0;
+      rises = λ i j. AllPairs-from_increasing xs rising i j 0;
+      first = λ k y h. (firsts k 0 h).1 y;
     }) whole in
     (found.0, found.1, found.2 ∙ sym (fill_by_all at xs (length xs) 0 refl (λ k h. refl)))

@@ -81,26 +81,8 @@ pub(crate) fn crossed<A: NarrowKind + Drop, B: NarrowKind + Drop>(
     ensures two { IfOk result (λ k. HoldsWhere (⟦<Pair<A, B> as LabelKind>⟧.book k).meaning (A.LabelKind.book first).meaning (B.LabelKind.book second).meaning 2 0 0) }
 {
     let mut pair = Pair::new(first, second);
-    pair.add(
-        0,
-        &PairValue {
-            first: 0,
-            second: 1,
-        },
-    )?;
-    pair.add(
-        1,
-        &PairValue {
-            first: 1,
-            second: 0,
-        },
-    )?;
-    pair.add(
-        2,
-        &PairValue {
-            first: 0,
-            second: 0,
-        },
-    )?;
+    pair.add(0, &value(0, 1))?;
+    pair.add(1, &value(1, 0))?;
+    pair.add(2, &value(0, 0))?;
     Ok(pair)
 }

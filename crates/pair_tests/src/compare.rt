@@ -1,5 +1,6 @@
 // What pairs answer, against what `holds` tells of a few labels among which each set of guards has its least.
 use crate::books::{POINTS, TAGS, WORDS, crossed, points, tags, words};
+use atoms::atom::Atom;
 use atoms::find::atoms;
 use atoms::table::AtomTable;
 use labels::kind::{LabelKind, NarrowKind};
@@ -8,21 +9,17 @@ use std::alloc::{AllocError, Global};
 use std::process::Abort;
 use std::test::Fail;
 
-// Puts the labels with this first part at the end.
-fn row(labels: &mut Vec<u64>, first: u32, seconds: &[u32]) -> Result<(), AllocError> {
-    for second in seconds {
-        labels.push(u64::from(first) * 0x1_0000_0000 + u64::from(*second))?;
-    }
-    Ok(())
+// The label of these parts.
+fn pair_label(first: u32, second: u32) -> u64 {
+    u64::from(first) << 32 | u64::from(second)
 }
 
 // The labels of these parts, rising.
 fn grid(heap: Global, firsts: &[u32], seconds: &[u32]) -> Result<Vec<u64>, AllocError> {
-    let mut labels = Vec::new(heap);
-    for first in firsts {
-        row(&mut labels, *first, seconds)?;
-    }
-    Ok(labels)
+    firsts
+        .iter()
+        .flat_map(|first| seconds.iter().map(|second| pair_label(*first, *second)))
+        .collect(heap)
 }
 
 // The guards that hold of the label.
@@ -38,12 +35,10 @@ fn guards_at<K: LabelKind>(kind: &K, label: u64) -> GuardSet {
 
 // The first of the labels that fits.
 fn first_fit<K: LabelKind>(kind: &K, labels: &[u64], yes: GuardSet, no: GuardSet) -> Option<u64> {
-    for label in labels {
-        if guards_at(kind, *label).fits(yes, no) {
-            return Some(*label);
-        }
-    }
-    None
+    labels
+        .iter()
+        .copied()
+        .find(|label| guards_at(kind, *label).fits(yes, no))
 }
 
 // Asks for the least label of each two sets of the guards 0 to 2.
@@ -55,27 +50,40 @@ fn same_least<K: LabelKind>(rt: &impl Abort, kind: &K, labels: &[u64]) {
     }
 }
 
-// Each set of guards that holds of one of the labels has one atom, at the first of them.
-fn same_atoms<K: LabelKind>(rt: &impl Abort, kind: &K, labels: &[u64]) -> Result<(), Fail> {
-    let mut table = AtomTable::fresh();
-    atoms(kind, &mut table)?;
-    let mut seen = GuardSet::none();
-    let mut k = 0usize;
+// For each set of guards that holds of one of the labels an atom, with the first of them.
+fn atoms_among<K: LabelKind>(
+    heap: Global,
+    kind: &K,
+    labels: &[u64],
+) -> Result<Vec<Atom>, AllocError> {
+    let mut found: Vec<Atom> = Vec::new(heap);
     for label in labels {
-        let set = guards_at(kind, *label);
-        if !seen.contains(set.0) {
-            let atom = table.atom(k).ok_or("an atom is missing")?;
-            assert_eq!(rt; (atom.label, atom.guards.0), (*label, set.0));
-            seen = seen.with(set.0);
-            k = k.saturating_add(1);
+        let guards = guards_at(kind, *label);
+        if !found.iter().any(|atom| atom.guards == guards) {
+            found.push(Atom {
+                label: *label,
+                guards,
+            })?;
         }
     }
-    assert_eq!(rt; table.count(), k);
+    Ok(found)
+}
+
+// The table has the atoms that the labels show, and no others.
+fn same_atoms<K: LabelKind>(
+    rt: &(impl Abort + Alloc<A = Global>),
+    kind: &K,
+    labels: &[u64],
+) -> Result<(), Fail> {
+    let mut table = AtomTable::fresh();
+    atoms(kind, &mut table)?;
+    let expected = atoms_among(rt.alloc(), kind, labels)?;
+    assert_eq!(rt; table.as_slice(), expected.as_slice());
     Ok(())
 }
 
 fn agrees<A: NarrowKind + Drop, B: NarrowKind + Drop>(
-    rt: &impl Abort,
+    rt: &(impl Abort + Alloc<A = Global>),
     first: A,
     second: B,
     labels: &[u64],

@@ -1,5 +1,6 @@
 // Least labels and atoms that were worked out by hand.
 use crate::books::{crossed, points, range, tags, value, words};
+use atoms::atom::Atom;
 use atoms::find::atoms;
 use atoms::table::AtomTable;
 use labels::code_points::CodePoints;
@@ -41,14 +42,22 @@ fn the_least_of_several_branches(rt: HostRuntime) -> Result<(), Fail> {
 // The two kinds with the largest books.
 #[test]
 fn atoms_of_points_with_words(rt: HostRuntime) -> Result<(), Fail> {
+    let none = GuardSet::none();
     let heap = rt.alloc();
     let mut pair = Pair::new(points(heap)?, words(heap)?);
     pair.add(0, &value(0, 1))?;
     let mut table = AtomTable::fresh();
     assert_eq!(rt; atoms(&pair, &mut table)?, (2, 1));
-    let without = table.atom(0).ok_or("no atom 0")?;
-    let with = table.atom(1).ok_or("no atom 1")?;
-    assert_eq!(rt; (without.label, without.guards.0), (0, 0));
-    assert_eq!(rt; (with.label, with.guards.0), (0x41_0000_0001, 1));
+    let expected = [
+        Atom {
+            label: 0,
+            guards: none,
+        },
+        Atom {
+            label: 0x41_0000_0001,
+            guards: none.with(0),
+        },
+    ];
+    assert_eq!(rt; table.as_slice(), expected.as_slice());
     Ok(())
 }

@@ -1,21 +1,26 @@
 -- A branch of the search: the labels of the two parts, and the label of the pair.
-use Rattle.std.proofs.Common.{◌≡◌, ℕ, ◌+◌, ◌*◌, ◌^◌, ◌<◌, ◌≤◌, min, Bool, true, false, ◌&&◌, List, Some, None, Option, sym, refl, ap, ◌∙◌, subst, inl, inr, ⊎_elim, arith, MatchOption}
+use Rattle.std.proofs.Common.{◌≡◌, ℕ, ◌+◌, ◌*◌, ◌^◌, ◌<◌, ◌≤◌, min, Bool, true, false, ◌&&◌, List, ◌⊎◌, Some, None, Option, sym, refl, ap, ◌∙◌, subst, inl, inr, ⊎_elim, arith, MatchOption}
 use Rattle.std.proofs.lemmas.Nat.{div-add-mod'}
 use Rattle.std.proofs.lemmas.Bool.{both_ways, cases_lt, and_parts, and_from, and_right}
 use Rattle.labels.specs.Meaning.{Meaning, Fits, IsLeast}
 use Rattle.labels.specs.Sets.{has}
 use Rattle.pairs.proofs.Labels.{first_is, second_is}
 use Rattle.pairs.specs.Pairs.{pair_meaning, pair_label, given_holds, first_of, second_of, value_at}
-use Rattle.pairs.specs.Search.{Small, Seconds, Branch, Searched, Narrow}
+use Rattle.pairs.specs.Search.{Seconds, Branch, Next, Searched, Narrow}
+use Rattle.pairs.specs.declared.pair.search.Path.{Path}
 use Rattle.pairs.specs.declared.value.PairValue.{PairValue}
 
 other_false : (x y : Bool) → (x && y) ≡ false → x ≡ true → y ≡ false
 other_false true y h e = h
 other_false false y h e = absurd (both_ways false refl e)
 
-module _ (a b : Meaning) (vs : List (Option PairValue)) (n wanted barred asked ins outs : ℕ) (branch : Branch vs wanted barred asked 32 ins outs) (s t : ℕ) (fors : Seconds vs wanted ins s) (againsts : Seconds vs barred ins t) where
+module _ (a b : Meaning) (vs : List (Option PairValue)) (n : ℕ) (p : Path) (branch : Branch vs p) (over : Next p.asked.0 p.next None) (s t : ℕ) (fors : Seconds vs p.yes.0 p.ins.0 s) (againsts : Seconds vs p.no.0 p.ins.0 t) where
+  -- no first is still to be asked
+  settled : (k : ℕ) → has p.asked.0 k ≡ true → (has p.ins.0 k ≡ true) ⊎ (has p.outs.0 k ≡ true)
+  settled k h = ⊎_elim (branch.settles k h) (λ up. absurd (over k up h)) (cases_lt k p.next)
+
   -- the second part of a label that fits
-  pub second_fits : (y : ℕ) → Fits a ins outs (first_of y) → Fits (pair_meaning a b vs n) wanted barred y → Fits b s t (second_of y)
+  pub second_fits : (y : ℕ) → Fits a p.ins.0 p.outs.0 (first_of y) → Fits (pair_meaning a b vs n) p.yes.0 p.no.0 y → Fits b s t (second_of y)
   second_fits y f fit = record {
     label = (and_parts (a.label (first_of y)) (b.label (second_of y)) fit.label).1;
     every = λ k h.
@@ -33,19 +38,19 @@ module _ (a b : Meaning) (vs : List (Option PairValue)) (n wanted barred asked i
   }
 
   -- labels of the two parts that fit
-  module _ (small : Small vs) (x q : ℕ) (narrow : q < 2 ^ 32) (f : Fits a ins outs x) (f' : Fits b s t q) where
+  module _ (x q : ℕ) (narrow : q < 2 ^ 32) (f : Fits a p.ins.0 p.outs.0 x) (f' : Fits b s t q) where
     at_parts : (h k : ℕ) (c d : Bool) → a.holds h x ≡ c → b.holds k q ≡ d → (a.holds h (first_of (x * 2 ^ 32 + q)) && b.holds k (second_of (x * 2 ^ 32 + q))) ≡ (c && d)
     at_parts h k c d e e' = ap (λ u. u && b.holds k (second_of (x * 2 ^ 32 + q))) (ap (a.holds h) (first_is x q narrow) ∙ e) ∙ ap (λ u. c && u) (ap (b.holds k) (second_is x q narrow) ∙ e')
 
-    none_given : (g : ℕ) (o : Option PairValue) → has barred g ≡ true → value_at vs g ≡ o → given_holds a b o (x * 2 ^ 32 + q) ≡ false
+    none_given : (g : ℕ) (o : Option PairValue) → has p.no.0 g ≡ true → value_at vs g ≡ o → given_holds a b o (x * 2 ^ 32 + q) ≡ false
     none_given g None chosen is = refl
     none_given g (Some v) chosen is =
         ⊎_elim
         (λ taken. at_parts v.first v.second true false (f.every v.first taken) (f'.none v.second (againsts.every g v chosen is taken)))
         (λ left. at_parts v.first v.second false (b.holds v.second q) (f.none v.first left) refl)
-        (branch.settles v.first (branch.asks.every g v chosen is refl) (small g v is).0)
+        (settled v.first (branch.asks.every g v chosen is refl))
 
-    pub both_fit : Fits (pair_meaning a b vs n) wanted barred (x * 2 ^ 32 + q)
+    pub both_fit : Fits (pair_meaning a b vs n) p.yes.0 p.no.0 (x * 2 ^ 32 + q)
     both_fit =
         let y : ℕ = x * 2 ^ 32 + q in
         let label : pair_label a b y ≡ true = and_from (a.label (first_of y)) (b.label (second_of y)) (ap a.label (first_is x q narrow) ∙ f.label) (ap b.label (second_is x q narrow) ∙ f'.label) in
@@ -60,19 +65,19 @@ module _ (a b : Meaning) (vs : List (Option PairValue)) (n wanted barred asked i
         }
 
   -- the second part has a label: the lesser of it with x, and the best so far
-  module _ (small : Small vs) (narrow : Narrow b) (x q : ℕ) (l : IsLeast a ins outs (Some x)) (l' : IsLeast b s t (Some q)) where
-    least_below : (y : ℕ) → Fits a ins outs (first_of y) → Fits (pair_meaning a b vs n) wanted barred y → x * 2 ^ 32 + q ≤ y
+  module _ (narrow : Narrow b) (x q : ℕ) (l : IsLeast a p.ins.0 p.outs.0 (Some x)) (l' : IsLeast b s t (Some q)) where
+    least_below : (y : ℕ) → Fits a p.ins.0 p.outs.0 (first_of y) → Fits (pair_meaning a b vs n) p.yes.0 p.no.0 y → x * 2 ^ 32 + q ≤ y
     least_below y f fit =
         let low = l.1 (first_of y) f in
         let low' = l'.1 (second_of y) (second_fits y f fit) in
         omega (arith, div-add-mod' y (2 ^ 32))
 
-    least_here : Fits a ins outs (first_of (x * 2 ^ 32 + q)) × Fits (pair_meaning a b vs n) wanted barred (x * 2 ^ 32 + q)
+    least_here : Fits a p.ins.0 p.outs.0 (first_of (x * 2 ^ 32 + q)) × Fits (pair_meaning a b vs n) p.yes.0 p.no.0 (x * 2 ^ 32 + q)
     least_here =
         let small' = narrow q l'.0.label in
-        (subst (Fits a ins outs) (sym (first_is x q small')) l.0, both_fit small x q small' l.0 l'.0)
+        (subst (Fits a p.ins.0 p.outs.0) (sym (first_is x q small')) l.0, both_fit x q small' l.0 l'.0)
 
-    pub end_searched : (best : Option ℕ) (r : ℕ) → MatchOption best (r ≡ x * 2 ^ 32 + q) (λ known. r ≡ min known (x * 2 ^ 32 + q)) → Searched (pair_meaning a b vs n) a wanted barred ins outs best (Some r)
+    pub end_searched : (best : Option ℕ) (r : ℕ) → MatchOption best (r ≡ x * 2 ^ 32 + q) (λ known. r ≡ min known (x * 2 ^ 32 + q)) → Searched (pair_meaning a b vs n) a p best (Some r)
     end_searched None r is = record {
       from = inr (x * 2 ^ 32 + q, ap Some is, least_here);
       less = λ y h. absurd h;

@@ -1,19 +1,11 @@
 -- The labels of a pair.
-use Rattle.std.proofs.Common.{◌≡◌, ℕ, ◌+◌, ◌*◌, ◌^◌, ◌<◌, ◌≤◌, true, List, get_or, replicate, is_some, Some, None, Option, refl, ap, ◌∙◌, ⊎_elim, arith}
+use Rattle.std.proofs.Common.{◌≡◌, ℕ, ◌+◌, ◌*◌, ◌^◌, ◌<◌, ◌≤◌, true, List, get_or, is_some, Some, None, Option, ◌≢◌, refl, ap, ◌∙◌, ⊎_elim, arith}
 use Rattle.std.proofs.lemmas.Nat.{div-mul-add, mod-mul-add}
-use Rattle.std.proofs.lemmas.Bool.{cases_lt, and_parts, and_from, and_right}
-use Rattle.labels.specs.Meaning.{Meaning, Lawful, Fresh}
-use Rattle.pairs.specs.Pairs.{pair_meaning, pair_label, given_holds, first_of, second_of}
-use Rattle.pairs.proofs.Values.{nothing, none_at, Known}
+use Rattle.std.proofs.lemmas.Bool.{cases_lt, and_parts, and_from}
+use Rattle.labels.specs.Meaning.{Meaning, Lawful}
+use Rattle.pairs.specs.Pairs.{pair_meaning, pair_label, given_holds, first_of, second_of, value_at}
 use Rattle.pairs.specs.Search.{Narrow}
 use Rattle.pairs.specs.declared.value.PairValue.{PairValue}
-
-pub fresh_pair : (a b : Meaning) (n : ℕ) → Fresh (pair_meaning a b (replicate n nothing) 0) (pair_label a b)
-fresh_pair a b n = record {
-  label = λ x. refl;
-  guards = refl;
-  holds = λ g x. and_right (pair_label a b x) (given_holds a b (get_or (replicate n nothing) g nothing) x) (ap (λ o. given_holds a b o x) (none_at n g));
-}
 
 pub given_from_holds : (a b : Meaning) (o : Option PairValue) (x : ℕ) → given_holds a b o x ≡ true → is_some o ≡ true
 given_from_holds a b None x h = h
@@ -28,7 +20,7 @@ module _ (p q : ℕ) (small : q < 2 ^ 32) where
   pub second_is : second_of (p * 2 ^ 32 + q) ≡ q
   second_is = mod-mul-add p (2 ^ 32) q small
 
-pub pair_lawful : (a b : Meaning) (vs : List (Option PairValue)) (n : ℕ) → Lawful a → Lawful b → Narrow a → Narrow b → n ≤ 32 → Known vs n → Lawful (pair_meaning a b vs n)
+pub pair_lawful : (a b : Meaning) (vs : List (Option PairValue)) (n : ℕ) → Lawful a → Lawful b → Narrow a → Narrow b → n ≤ 32 → ((g : ℕ) → n ≤ g → is_some (value_at vs g) ≢ true) → Lawful (pair_meaning a b vs n)
 pair_lawful a b vs n law law' narrow narrow' few known =
     let p = law.some.0 in
     let q = law'.some.0 in

@@ -1,6 +1,5 @@
-pub mod Values
+pub mod Empty
 pub mod Labels
-pub mod Adding
 pub mod Gathering
 pub mod Branching
 pub mod Asking

@@ -1,9 +1,11 @@
 -- The search for the least label of a pair.
 use Rattle.std.specs.Prelude.{◌≡◌, ℕ, ◌^◌, ◌<◌, ◌≤◌, Bool, true, ◌⊎◌, List, is_some, Some, None, Option, ◌≢◌}
+use Rattle.std.specs.Fn.{AnyResult, Shared}
 use Rattle.labels.specs.Edges.{AtMost}
 use Rattle.labels.specs.Meaning.{Meaning, Fits}
 use Rattle.labels.specs.Sets.{has}
 use Rattle.pairs.specs.Pairs.{first_of, value_at}
+use Rattle.pairs.specs.declared.pair.search.Path.{Path}
 use Rattle.pairs.specs.declared.value.PairValue.{PairValue}
 
 -- both parts are numbers that a set of guards can have
@@ -14,10 +16,9 @@ Small vs = (g : ℕ) (v : PairValue) → value_at vs g ≡ Some v → (v.first <
 abbrev pub Given : List (Option PairValue) → ℕ → Type 0
 Given vs gs = (g : ℕ) → has gs g ≡ true → is_some (value_at vs g) ≡ true
 
--- the value of guard g, where that is a guard of gs and has one
-abbrev pub ValueOf : List (Option PairValue) → ℕ → ℕ → Option PairValue → Type 0
-ValueOf vs gs g None = (v : PairValue) → has gs g ≡ true → value_at vs g ≢ Some v
-ValueOf vs gs g (Some v) = (has gs g ≡ true) × (value_at vs g ≡ Some v)
+-- what a call of f returns at a value is what h says
+abbrev pub Gives : {F R : Type 0} → Shared F (PairValue × Unit {0}) R → F → (PairValue → R) → Type 0
+Gives g f h = (v : PairValue) → AnyResult g f (v, tt) (λ r. r ≡ h v)
 
 -- a guard of gs whose value is kept, and has this part
 pub record Source (vs : List (Option PairValue)) (gs : ℕ) (keep : PairValue → Bool) (part : PairValue → ℕ) (k : ℕ) : Type 0 where
@@ -45,11 +46,11 @@ abbrev pub Next : ℕ → ℕ → Option ℕ → Type 0
 Next s n None = (k : ℕ) → n ≤ k → has s k ≢ true
 Next s n (Some g) = (n ≤ g) × (g < 32) × (has s g ≡ true) × ((k : ℕ) → n ≤ k → k < g → has s k ≢ true)
 
--- a branch of the search takes guards of the first part in, and others out: in every first of the yes guards, which all have a value, and in or out each first below n of the no guards
-pub record Branch (vs : List (Option PairValue)) (wanted barred asked n ins outs : ℕ) : Type 0 where
-  pub takes : (g : ℕ) → has wanted g ≡ true → (v : PairValue) × (value_at vs g ≡ Some v) × (has ins v.first ≡ true)
-  pub asks : Firsts vs barred asked
-  pub settles : (k : ℕ) → has asked k ≡ true → k < n → (has ins k ≡ true) ⊎ (has outs k ≡ true)
+-- the path is a branch of the search: it takes in every first of the yes guards, which all have a value, and takes in or out each first below `next` of the no guards
+pub record Branch (vs : List (Option PairValue)) (p : Path) : Type 0 where
+  pub takes : (g : ℕ) → has p.yes.0 g ≡ true → (v : PairValue) × (value_at vs g ≡ Some v) × (has p.ins.0 v.first ≡ true)
+  pub asks : Firsts vs p.no.0 p.asked.0
+  pub settles : (k : ℕ) → has p.asked.0 k ≡ true → k < p.next → (has p.ins.0 k ≡ true) ⊎ (has p.outs.0 k ≡ true)
 
 -- r is the least of best and of the numbers that P holds of
 pub record LeastOf (P : ℕ → Type 0) (best r : Option ℕ) : Type 0 where
@@ -58,8 +59,8 @@ pub record LeastOf (P : ℕ → Type 0) (best r : Option ℕ) : Type 0 where
   pub all : (y : ℕ) → P y → AtMost r y
 
 -- r is the least of best and of the labels that fit the meaning m and have a first part of the branch, in the meaning a
-abbrev pub Searched : Meaning → Meaning → ℕ → ℕ → ℕ → ℕ → Option ℕ → Option ℕ → Type 0
-Searched m a wanted barred ins outs best r = LeastOf (λ y. Fits a ins outs (first_of y) × Fits m wanted barred y) best r
+abbrev pub Searched : Meaning → Meaning → Path → Option ℕ → Option ℕ → Type 0
+Searched m a p best r = LeastOf (λ y. Fits a p.ins.0 p.outs.0 (first_of y) × Fits m p.yes.0 p.no.0 y) best r
 
 abbrev pub Narrow : Meaning → Type 0
 Narrow m = (x : ℕ) → m.label x ≡ true → x < 2 ^ 32

@@ -1,6 +1,6 @@
 // The pair of two narrow kinds.
 #![tactic(auto)]
 
-mod gather;
 pub mod pair;
 pub mod value;
+mod values;

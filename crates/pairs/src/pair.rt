@@ -1,46 +1,39 @@
 // The pair of two narrow kinds: a label of each, and guards that hold where a guard of each holds.
-ghost use Rattle.std.specs.Prelude.{◌≡◌, ℕ, ◌≤◌, true, length, is_some, None, ◌≢◌};
+ghost use Rattle.std.specs.Prelude.{◌≡◌, ℕ, None};
 ghost use Rattle.labels.specs.Meaning.{Fresh};
 ghost use Rattle.pairs.specs.Pairs.{pair_book, pair_label, pair_meaning, value_at};
-ghost use Rattle.pairs.specs.Search.{Small};
 
 mod search;
 
-use crate::gather::{all_given, firsts};
-use crate::pair::search::Question;
+use crate::pair::search::Path;
 use crate::value::PairValue;
+use crate::values::Values;
 use labels::kind::{AddFault, LabelKind, NarrowKind};
 use labels::set::GuardSet;
 
 // Second parts lie below this.
 const SPAN: u64 = 0x1_0000_0000;
 
-// Two kinds, and the values of the pair's guards, one each at most.
+// Two kinds, and the values of the pair's guards.
 #[derive(Drop)]
 pub struct Pair<A, B> {
     first: A,
     second: B,
-    values: [Option<PairValue>; 32],
-    guards: u32,
-    ghost long: { length values ≡ 32 },
-    ghost few: { guards ≤ 32 },
-    ghost known: { (g : ℕ) → guards ≤ g → is_some (value_at values g) ≢ true },
-    ghost small: { Small values },
+    values: Values,
 }
 
 impl<A: NarrowKind, B: NarrowKind> Pair<A, B> {
     // The pairs of the labels of two kinds, with no guard.
     pub fn new(first: A, second: B) -> Pair<A, B>
         ensures parts { (result.first ≡ first) × (result.second ≡ second) }
-        ensures meaning { Fresh (pair_meaning (A.LabelKind.book first).meaning (B.LabelKind.book second).meaning result.values result.guards) (pair_label (A.LabelKind.book first).meaning (B.LabelKind.book second).meaning) }
-        ensures values { (g : ℕ) → value_at result.values g ≡ None }
+        ensures meaning { Fresh (pair_meaning (A.LabelKind.book first).meaning (B.LabelKind.book second).meaning result.values.list result.values.guards) (pair_label (A.LabelKind.book first).meaning (B.LabelKind.book second).meaning) }
+        ensures values { (g : ℕ) → value_at result.values.list g ≡ None }
     {
-        let values = [None; 32];
+        let values = Values::none();
         Pair {
             first,
             second,
             values,
-            guards: 0,
         }
     }
 }
@@ -48,7 +41,7 @@ impl<A: NarrowKind, B: NarrowKind> Pair<A, B> {
 impl<A: NarrowKind, B: NarrowKind> LabelKind for Pair<A, B> {
     type Value = PairValue;
 
-    ghost book = { λ p. pair_book (A.LabelKind.book p.first).meaning (B.LabelKind.book p.second).meaning p.values p.guards };
+    ghost book = { λ p. pair_book (A.LabelKind.book p.first).meaning (B.LabelKind.book p.second).meaning p.values.list p.values.guards };
 
     fn lawful(&self) {
         self.first.lawful();
@@ -57,7 +50,7 @@ impl<A: NarrowKind, B: NarrowKind> LabelKind for Pair<A, B> {
     }
 
     fn count(&self) -> u32 {
-        self.guards
+        self.values.count()
     }
 
     fn label(&self, x: u64) -> bool {
@@ -65,23 +58,27 @@ impl<A: NarrowKind, B: NarrowKind> LabelKind for Pair<A, B> {
     }
 
     fn holds(&self, guard: u32, x: u64) -> bool {
-        if guard > 31 || !self.label(x) {
-            return false;
-        }
-        let value = self.values[guard as usize];
-        match value {
-            Some(v) => self.first.holds(v.first, x / SPAN) && self.second.holds(v.second, x % SPAN),
-            None => false,
-        }
+        self.label(x)
+            && self.values.at(guard).is_some_and(|v| {
+                self.first.holds(v.first, x / SPAN) && self.second.holds(v.second, x % SPAN)
+            })
     }
 
     fn least(&self, yes: GuardSet, no: GuardSet) -> Option<u64> {
-        if !all_given(&self.values, yes) {
+        if !self.values.all_given(yes) {
             return None;
         }
-        let asked = firsts(&self.values, no);
-        let ins = firsts(&self.values, yes);
-        self.search(Question { yes, no, asked }, 0, ins, GuardSet::none(), None)
+        let asked = self.values.firsts(no);
+        let ins = self.values.firsts(yes);
+        let start = Path {
+            yes,
+            no,
+            asked,
+            next: 0,
+            ins,
+            outs: GuardSet::none(),
+        };
+        self.search(start, None)
     }
 
     fn add(&mut self, guard: u32, value: &PairValue) -> Result<(), AddFault> {
@@ -95,12 +92,10 @@ impl<A: NarrowKind, B: NarrowKind> LabelKind for Pair<A, B> {
         if v.first >= self.first.count() || v.second >= self.second.count() {
             return Err(AddFault::Value);
         }
-        let old = self.values[guard as usize];
-        if old.is_some() {
+        if self.values.at(guard).is_some() {
             return Err(AddFault::Full);
         }
-        self.values[guard as usize] = Some(v);
-        self.guards = self.guards.max(guard + 1);
+        self.values.put(guard, v);
         Ok(())
     }
 }

@@ -1,7 +1,6 @@
-use Rattle.std.proofs.Common.{◌≡◌, ℕ, Bool, false, ◌&&◌, ap, ap₂, ◌∙◌, arith}
+use Rattle.std.proofs.Common.{◌≡◌, ℕ, Bool, false, ◌&&◌, ap, arith}
 use Rattle.std.proofs.lemmas.Grind.{common_steps}
 use Rattle.labels.specs.Adding.{Added, Book}
-use Rattle.pairs.specs.Pairs.{both_hold, pair_label}
 use Rattle.pair_tests.proofs.books.crossed.Goals as goal
 
 -- what the guards 1 and 2 hold of, once the guards 0, 1 and 2 were given a value each
@@ -15,12 +14,10 @@ two_holds {V = V} b c d e u v w x first second third none =
 
 pub returns-clause-one : goal.returns-clause-one
 returns-clause-one g c = λ x.
-    let parts = c.new-pair.ensures.parts in
-    one_holds _ _ _ _ _ _ _ x c.in_ok-add.ensures.3 c.in_ok-add-2.ensures.3 c.in_ok-add-3.ensures.3 (rw (parts.0, parts.1) (c.new-pair.ensures.meaning.holds 1 x))
-    ∙ ap₂ (λ p q. pair_label (g.A.LabelKind.book p).meaning (g.B.LabelKind.book q).meaning x && both_hold (g.A.LabelKind.book p).meaning (g.B.LabelKind.book q).meaning (record { first = 1; second = 0 }) x) parts.0 parts.1
+    let fresh = c.new-pair.ensures in
+    simp (c.value-2.ensures, fresh.parts.0, fresh.parts.1) at (one_holds _ _ _ _ _ _ _ x c.in_ok-add.ensures.3 c.in_ok-add-2.ensures.3 c.in_ok-add-3.ensures.3 (rw (fresh.parts.0, fresh.parts.1) (fresh.meaning.holds 1 x)))
 
 pub returns-clause-two : goal.returns-clause-two
 returns-clause-two g c = λ x.
-    let parts = c.new-pair.ensures.parts in
-    two_holds _ _ _ _ _ _ _ x c.in_ok-add.ensures.3 c.in_ok-add-2.ensures.3 c.in_ok-add-3.ensures.3 (rw (parts.0, parts.1) (c.new-pair.ensures.meaning.holds 2 x))
-    ∙ ap₂ (λ p q. pair_label (g.A.LabelKind.book p).meaning (g.B.LabelKind.book q).meaning x && both_hold (g.A.LabelKind.book p).meaning (g.B.LabelKind.book q).meaning (record { first = 0; second = 0 }) x) parts.0 parts.1
+    let fresh = c.new-pair.ensures in
+    simp (c.value-3.ensures, fresh.parts.0, fresh.parts.1) at (two_holds _ _ _ _ _ _ _ x c.in_ok-add.ensures.3 c.in_ok-add-2.ensures.3 c.in_ok-add-3.ensures.3 (rw (fresh.parts.0, fresh.parts.1) (fresh.meaning.holds 2 x)))

@@ -1,7 +1,6 @@
+use Rattle.std.proofs.Common.{refl}
 use Rattle.pairs.proofs.Asking.{start_branch}
 use Rattle.pairs.proofs.pair.PairLabelKind.least.Goals as goal
 
 pub search-requires : goal.search-requires
-search-requires g c =
-    start_branch c.args.self.now.values c.args.yes.0 c.args.no.0 c.firsts-asked.result.0 c.firsts-ins.result.0 c.none.result.0
-    (c.all_given.ensures.0 c.if-not-all_given.false) c.firsts-asked.ensures c.firsts-ins.ensures
+search-requires g c = start_branch c.args.self.now.values.list _ refl (c.all_given.ensures.0 c.if-not-all_given.false) c.firsts-asked.ensures c.firsts-ins.ensures
