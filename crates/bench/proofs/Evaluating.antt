@@ -1,18 +1,19 @@
 -- The states of nodes, each from those of the nodes before it.
-use Rattle.std.proofs.Common.{◌≡◌, ℕ, zero, suc, ◌+◌, ◌-◌, ◌<◌, Bool, List, length, get_or, set, Ok, sym, refl, ap, ◌∙◌, subst, ⊎_elim, arith}
+use Rattle.std.proofs.Common.{◌≡◌, ℕ, zero, suc, ◌+◌, ◌<◌, Bool, List, length, get_or, set, Ok, sym, refl, ap, ◌∙◌, subst, ⊎_elim, arith}
 use Rattle.std.proofs.lemmas.List.{get_or-set_same, get_or-set_other}
 use Rattle.std.proofs.lemmas.Bool.{cases_lt, lt-ltb}
 use Rattle.labels.specs.Meaning.{Meaning}
 use Rattle.atoms.specs.Atoms.{Exactly}
 use Rattle.atoms.specs.Entries.{set_at}
 use Rattle.atoms.specs.declared.atom.Atom.{Atom}
+use Rattle.atoms.specs.declared.table.AtomTable.{AtomTable}
 use Rattle.trees.specs.Trees.{leaf, one, two}
 use Rattle.trees.specs.Automata.{Automaton, Complete}
 use Rattle.trees.specs.Rounds.{Combination, nullary, unary, binary, Below, step}
 use Rattle.trees.specs.Trees.{letters}
 use Rattle.bench.specs.Combining.{combine, over, Inside}
 use Rattle.bench.specs.Nodes.{line_of, line, node_at, line_at, Counted, AllShaped}
-use Rattle.bench.specs.Benches.{Stored}
+use Rattle.bench.specs.Benches.{shelves_in, shelf_at}
 use Rattle.bench.specs.Shelves.{automaton}
 use Rattle.bench.specs.Testing.{HasState, Roots, Tests}
 use Rattle.bench.specs.declared.node.Node.{Node}
@@ -81,13 +82,8 @@ one_evaluated m xs n A complete nodes states i a s w l exact b e h k lt =
     (cases_lt k i)
 
 -- the root's state tells whether the shelf accepts
-pub ran_tests : (m : Meaning) (xs : List Atom) (n : ℕ) (bytes : List ℕ) (k : ℕ) (nodes : List Node) (bs : List ℕ) (s : ℕ) (b : Bool) → Stored n bytes k bs → Counted nodes → AllShaped nodes → Roots m xs n (automaton bs) nodes (Ok s) → b ≡ (automaton bs).accepts s → Tests m xs n bytes k nodes (Ok b)
-ran_tests m xs n bytes k nodes bs s b stored counted shaped ran e = (
-  stored.on,
-  counted,
-  shaped,
-  ran.1,
-  s,
-  subst (λ cs. HasState m xs n (automaton cs) nodes (length nodes - 1) s) stored.same ran.2,
-  e ∙ ap (λ cs. (automaton cs).accepts s) stored.same,
-)
+pub ran_tests : (m : Meaning) (table : AtomTable) (bytes : List ℕ) (k : ℕ) (nodes : List Node) (used : AtomTable) (bs : List ℕ) (s : ℕ) (b : Bool) → k < shelves_in (length bytes) → bs ≡ shelf_at bytes k → used ≡ table → Counted nodes → AllShaped nodes → Roots m used.atoms used.count (automaton bs) nodes (Ok s) → b ≡ (automaton bs).accepts s → Tests m table.atoms table.count bytes k nodes (Ok b)
+ran_tests m table bytes k nodes used bs s b on same own counted shaped ran e =
+    let Roots' : AtomTable → List ℕ → Type 0 = λ t cs. Roots m t.atoms t.count (automaton cs) nodes (Ok s) in
+    let root = subst (λ cs. Roots' table cs) same (subst (λ t. Roots' t bs) own ran) in
+    (on, counted, shaped, root.1, s, root.2, e ∙ ap (λ cs. (automaton cs).accepts s) same)

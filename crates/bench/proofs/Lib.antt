@@ -2,6 +2,7 @@ pub mod Fresh
 pub mod SameBytes
 pub mod Writing
 pub mod Reading
+pub mod Places
 pub mod Wiping
 pub mod Lookups
 pub mod Evaluating

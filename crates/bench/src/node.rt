@@ -1,10 +1,12 @@
 // A tree as a list of nodes, the root last.
-ghost use Rattle.std.specs.Prelude.{◌≡◌, length, Decides, MatchOption, slice_index};
+ghost use Rattle.std.specs.Prelude.{◌≡◌, ℕ, length, Decides, MatchResult, slice_index};
+ghost use Rattle.bench.specs.declared.refusal.Refusal.TheVariants.{NodeCount, NodeOutOfShape};
 ghost use Rattle.trees.specs.Rounds.{Below};
 ghost use Rattle.bench.specs.Combining.{over};
 ghost use Rattle.bench.specs.Nodes.{line, Counted, Shaped, AllShaped, ShapedTo, FirstNot};
 
 use crate::children::Children;
+use crate::refusal::Refusal;
 
 #[derive(Clone, Copy, Debug, PartialEq, Eq)]
 pub struct Node {
@@ -42,21 +44,23 @@ impl Node {
     }
 }
 
-// Whether there are 1 to 1,024 nodes.
-pub(crate) fn countable(nodes: &[Node]) -> bool
-    ensures { Decides result (Counted nodes.now) }
+// There are 1 to 1,024 nodes.
+pub(crate) fn check_count(nodes: &[Node]) -> Result<(), Refusal>
+    ensures { MatchResult result (λ _. Counted nodes.now) (λ e. (e ≡ NodeCount) × (Counted nodes.now → ⊥)) }
 {
-    !nodes.is_empty() && nodes.len() <= 1024
+    (1..=1024)
+        .contains(&nodes.len())
+        .then_some(())
+        .ok_or(Refusal::NodeCount)
 }
 
-// The number of the first node that is out of shape.
-pub(crate) fn first_misshapen(nodes: &[Node]) -> Option<usize>
-    ensures { MatchOption result (AllShaped nodes.now) (λ i. FirstNot (ShapedTo nodes.now) (length nodes.now) i) }
+// Every node is in shape.
+pub(crate) fn check_shape(nodes: &[Node]) -> Result<(), Refusal>
+    ensures { MatchResult result (λ _. AllShaped nodes.now) (λ e. (i : ℕ) × (e ≡ NodeOutOfShape i) × FirstNot (ShapedTo nodes.now) (length nodes.now) i) }
 {
-    for (i, node) in nodes.iter().enumerate() {
-        if !node.in_shape(i) {
-            return Some(i);
-        }
-    }
-    None
+    nodes
+        .iter()
+        .enumerate()
+        .position(|(i, node)| !node.in_shape(i))
+        .map_or(Ok(()), |i| Err(Refusal::NodeOutOfShape(i)))
 }
