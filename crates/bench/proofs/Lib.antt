@@ -3,6 +3,5 @@ pub mod SameBytes
 pub mod Writing
 pub mod Reading
 pub mod Places
-pub mod Wiping
 pub mod Lookups
 pub mod Evaluating

@@ -1,11 +1,11 @@
 -- What writing one shelf leaves of the others.
-use Rattle.std.proofs.Common.{◌≡◌, ℕ, ◌+◌, ◌-◌, ◌*◌, ◌<◌, ◌≤◌, List, length, get_or, take, drop, sym, refl, ap, ◌∙◌, subst, ⊎_elim, arith, rules}
+use Rattle.std.proofs.Common.{◌≡◌, ℕ, ◌+◌, ◌-◌, ◌*◌, ◌<◌, ◌≤◌, List, length, get_or, take, drop, sym, ap, ◌∙◌, subst, ⊎_elim, arith, rules, below_more}
 use borrow.Rule.Slice.PartMut.{put_mid}
 use Rattle.std.proofs.lemmas.List.{places, ext_get_or, length-take, length-drop, get_or-take, get_or-drop}
 use Rattle.std.proofs.lemmas.Slice.{between-put_mid}
 use Rattle.std.proofs.lemmas.Bool.{cases_lt, cases_eq}
 use Rattle.bench.specs.Shelves.{Sound, Fresh}
-use Rattle.bench.specs.Benches.{shelves_in, shelf_at, AllSound, Opened}
+use Rattle.bench.specs.Benches.{shelves_in, shelf_at, AllSound}
 
 -- a byte of a shelf
 pub getD_shelf : (xs : List ℕ) (k i : ℕ) → i < 16945 → get_or (shelf_at xs k) i 0 ≡ get_or xs (k * 16945 + i) 0
@@ -65,22 +65,13 @@ pub record ClearedTo (before : List ℕ) (k : ℕ) (after : List ℕ) : Type 0 w
   pub fresh : (j : ℕ) → j < k → Fresh (shelf_at after j)
   pub beyond : (i : ℕ) → k * 16945 ≤ i → get_or after i 0 ≡ get_or before i 0
 
-pub none_cleared : (xs : List ℕ) → ClearedTo xs 0 xs
-none_cleared xs = record { long = refl; fresh = λ j l. absurd (omega arith); beyond = λ i l. refl }
-
 pub one_cleared : (before xs ys : List ℕ) (k w : ℕ) → ClearedTo before k xs → k < shelves_in (length xs) → w ≡ 16945 → Fresh ys → ClearedTo before (k + 1) (put_mid (k * 16945) w xs ys)
 one_cleared before xs ys k w h l wide f =
     let long : length ys ≡ w = f.long ∙ sym wide in
     record {
       long = length_written xs ys k w l wide long ∙ h.long;
-      fresh = λ j m.
-          ⊎_elim
-          (λ lt. subst Fresh (sym (shelf_other xs ys k w l wide long j (omega arith) (omega arith))) (h.fresh j lt))
-          (λ le. let same : k ≡ j = omega arith in subst (λ i. Fresh (shelf_at (put_mid (k * 16945) w xs ys) i)) same (subst Fresh (sym (shelf_written xs ys k w l wide long)) f))
-          (cases_lt j k);
+      fresh = below_more (λ j. Fresh (shelf_at (put_mid (k * 16945) w xs ys) j)) k
+          (λ j lt. subst Fresh (sym (shelf_other xs ys k w l wide long j (omega arith) (omega arith))) (h.fresh j lt))
+          (subst Fresh (sym (shelf_written xs ys k w l wide long)) f);
       beyond = λ i m. past_written xs ys k w l wide long i (omega arith) ∙ h.beyond i (omega arith);
     }
-
-pub all_cleared : (before xs : List ℕ) (k : ℕ) → k ≡ shelves_in (length before) → ClearedTo before k xs → Opened before xs
-all_cleared before xs k e h =
-    record { long = h.long; fresh = λ j l. h.fresh j (omega arith); beyond = λ i l. h.beyond i (omega arith) }

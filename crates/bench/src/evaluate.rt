@@ -5,7 +5,7 @@ ghost use Rattle.bench.specs.Shelves.{automaton};
 ghost use Rattle.bench.specs.Testing.{Roots};
 
 use crate::lookup::atom_of;
-use crate::node::Node;
+use crate::node::{NODES, Node};
 use crate::refusal::Refusal;
 use crate::shelf::Shelf;
 use labels::kind::LabelKind;
@@ -17,7 +17,7 @@ impl Shelf<'_> {
         requires shaped { AllShaped nodes.now }
         ensures { Roots (K.LabelKind.book kind.now).meaning self.now.table.now.atoms self.now.table.now.count (automaton self.now.bytes.now) nodes.now result }
     {
-        let mut states = [0u8; 1024];
+        let mut states = [0; NODES];
         for (i, node) in nodes.iter().enumerate() {
             let atom = atom_of(kind, self.table, node.label).ok_or(Refusal::UnknownLabel(i))?;
             states[i] = self.next(node.over(&states), atom);

@@ -8,6 +8,9 @@ ghost use Rattle.bench.specs.Nodes.{line, Counted, Shaped, AllShaped, ShapedTo, 
 use crate::children::Children;
 use crate::refusal::Refusal;
 
+// How many nodes a tree may have.
+pub(crate) const NODES: usize = 1024;
+
 #[derive(Clone, Copy, Debug, PartialEq, Eq)]
 pub struct Node {
     pub label: u64,
@@ -25,8 +28,8 @@ impl Node {
     {
         match self.children {
             0 => true,
-            1 => (self.left as usize) < number,
-            2 => (self.left as usize) < number && (self.right as usize) < number,
+            1 => usize::from(self.left) < number,
+            2 => usize::from(self.left) < number && usize::from(self.right) < number,
             _ => false,
         }
     }
@@ -48,7 +51,7 @@ impl Node {
 pub(crate) fn check_count(nodes: &[Node]) -> Result<(), Refusal>
     ensures { MatchResult result (λ _. Counted nodes.now) (λ e. (e ≡ NodeCount) × (Counted nodes.now → ⊥)) }
 {
-    (1..=1024)
+    (1..=NODES)
         .contains(&nodes.len())
         .then_some(())
         .ok_or(Refusal::NodeCount)

@@ -1,4 +1,4 @@
-use Rattle.std.proofs.Common.{ℕ, ap, subst, ◌∙◌, arith}
+use Rattle.std.proofs.Common.{ap, ◌∙◌, arith}
 use Rattle.std.specs.Slice.Iter.{chunks_exact_rest, chunks_exact_size}
 use Rattle.std.specs.Iterator.Runs.{IsChunksExactRun}
 use Rattle.bench.proofs.Places.{nth_stored}
@@ -12,5 +12,5 @@ returns c =
     let q = taken.1 in
     let size = ap (λ x. chunks_exact_size x) q.1 ∙ c.chunks_exact.ensures.size in
     let rest = ap (λ x. chunks_exact_rest x) q.1 ∙ c.chunks_exact.ensures.rest in
-    let chunks = c.chunks_exact.ensures.runs q.0 q.0.seen (omega arith) in
-    nth_stored self.table.count self.bytes.now self.sound p.0 q.0 taken.0 q.2.0 q.2.1 (subst (λ xs. IsChunksExactRun q.0 16945 xs) rest (subst (λ (w : ℕ). IsChunksExactRun q.0 w (chunks_exact_rest q.0.from)) size chunks)) c.args.k c.nth.result p.2
+    let chunks : IsChunksExactRun q.0 16945 self.bytes.now = rw (← size, ← rest) (c.chunks_exact.ensures.runs q.0 q.0.seen (omega arith)) in
+    nth_stored self.table.count self.bytes.now self.sound p.0 q.0 taken.0 q.2.0 q.2.1 chunks c.args.k c.nth.result p.2

@@ -19,10 +19,12 @@ loop-i-preserved g c =
     let i : ℕ = c.loop-i.i in
     let atom : ℕ = c.in_ok-atom.atom in
     let named : Names m table.atoms table.count (node_at nodes i).label (Some atom) = rw c.in_ok-atom.ensures.ok_part at c.atom_of.ensures in
-    let within : i < length nodes = omega arith in (
-      length-set c.loop-i.states i c.next.result ∙ inv.0,
-      below_more (KnownTo m table.atoms table.count nodes) i inv.1 (atom, named.0, named.1),
-      one_evaluated m table.atoms table.count A c.args.self.now.complete nodes c.loop-i.states i atom c.next.result (omega (arith, inv.0, c.requires.counted.1)) named.0 named.1 (c.requires.shaped i within).1
+    let within : i < length nodes = omega arith in
+    record {
+      long = length-set c.loop-i.states i c.next.result ∙ inv.long;
+      known = below_more (KnownTo m table.atoms table.count nodes) i inv.known (atom, named.0, named.1);
+      evaluated =
+          one_evaluated m table.atoms table.count A c.args.self.now.complete nodes c.loop-i.states i atom c.next.result (omega (arith, inv.long, c.requires.counted.1)) named.0 named.1 (c.requires.shaped i within).1
           (◌∙◌ {b = step A (combine c.over.result atom)} c.next.ensures (ap (λ x. step A (combine x atom)) c.over.ensures))
-          inv.2,
-    )
+          inv.evaluated;
+    }

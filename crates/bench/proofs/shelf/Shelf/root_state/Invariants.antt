@@ -7,4 +7,9 @@ use Rattle.bench.proofs.shelf.Shelf.root_state.Given as goal
 abbrev pub invariant-loop-i : goal.invariant-loop-i
 invariant-loop-i g l =
     let m = (g.K.LabelKind.book l.kind).meaning in
-    (length l.states ≡ 1024) × ((k : ℕ) → k < l.i → KnownTo m l.self.table.now.atoms l.self.table.now.count l.nodes k) × ((k : ℕ) → k < l.i → Evaluated m l.self.table.now.atoms l.self.table.now.count (automaton l.self.bytes.now) l.nodes k (get_or l.states k 0))
+    let table = l.self.table.now in
+    record {
+      long : length l.states ≡ 1024;
+      known : (k : ℕ) → k < l.i → KnownTo m table.atoms table.count l.nodes k;
+      evaluated : (k : ℕ) → k < l.i → Evaluated m table.atoms table.count (automaton l.self.bytes.now) l.nodes k (get_or l.states k 0);
+    }
