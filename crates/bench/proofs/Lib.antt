@@ -2,6 +2,6 @@ pub mod Fresh
 pub mod SameBytes
 pub mod Writing
 pub mod Reading
-pub mod Places
+pub mod Pieces
 pub mod Lookups
 pub mod Evaluating

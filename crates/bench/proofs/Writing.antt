@@ -1,25 +1,25 @@
 -- What writing one shelf leaves of the others.
 use Rattle.std.proofs.Common.{◌≡◌, ℕ, ◌+◌, ◌-◌, ◌*◌, ◌<◌, ◌≤◌, List, length, get_or, take, drop, sym, ap, ◌∙◌, subst, ⊎_elim, arith, rules, below_more}
 use borrow.Rule.Slice.PartMut.{put_mid}
-use Rattle.std.proofs.lemmas.List.{places, ext_get_or, length-take, length-drop, get_or-take, get_or-drop}
+use Rattle.std.proofs.lemmas.List.{places, ext_get_or, length-take, length-drop}
 use Rattle.std.proofs.lemmas.Slice.{between-put_mid}
 use Rattle.std.proofs.lemmas.Bool.{cases_lt, cases_eq}
 use Rattle.bench.specs.Shelves.{Sound, Fresh}
 use Rattle.bench.specs.Benches.{shelves_in, shelf_at, AllSound}
 
 -- a byte of a shelf
-pub getD_shelf : (xs : List ℕ) (k i : ℕ) → i < 16945 → get_or (shelf_at xs k) i 0 ≡ get_or xs (k * 16945 + i) 0
-getD_shelf xs k i l = get_or-take 16945 (drop (k * 16945) xs) i 0 l ∙ get_or-drop (k * 16945) xs i 0
+byte_at : (xs : List ℕ) (k i : ℕ) → i < 16945 → get_or (shelf_at xs k) i 0 ≡ get_or xs (k * 16945 + i) 0
+byte_at xs k i l = search (rules, places)
 
-pub length_shelf : (xs : List ℕ) (k : ℕ) → k < shelves_in (length xs) → length (shelf_at xs k) ≡ 16945
-length_shelf xs k l = length-take 16945 (drop (k * 16945) xs) ∙ omega (arith, length-drop (k * 16945) xs)
+length_shelf : (xs : List ℕ) (k : ℕ) → k < shelves_in (length xs) → length (shelf_at xs k) ≡ 16945
+length_shelf xs k l = simp (length-take, length-drop) (omega arith)
 
 -- lists that agree where a shelf stands have the same shelf there
 same_shelf : (xs zs : List ℕ) (k : ℕ) → length zs ≡ length xs → ((i : ℕ) → k * 16945 ≤ i → i < k * 16945 + 16945 → get_or zs i 0 ≡ get_or xs i 0) → k < shelves_in (length xs) → shelf_at zs k ≡ shelf_at xs k
 same_shelf xs zs k e h l =
-    let lz : length (shelf_at zs k) ≡ 16945 = length_shelf zs k (omega arith) in
-    ext_get_or 0 (shelf_at zs k) (shelf_at xs k) (lz ∙ sym (length_shelf xs k l))
-    (λ i m. let n : i < 16945 = omega arith in getD_shelf zs k i n ∙ h (k * 16945 + i) (omega arith) (omega arith) ∙ sym (getD_shelf xs k i n))
+    let long = length_shelf zs k (omega arith) in
+    ext_get_or 0 (shelf_at zs k) (shelf_at xs k) (long ∙ sym (length_shelf xs k l))
+    (λ i m. let n : i < 16945 = omega arith in byte_at zs k i n ∙ h (k * 16945 + i) (omega arith) (omega arith) ∙ sym (byte_at xs k i n))
 
 -- ys of length w written over shelf k
 module _ (xs ys : List ℕ) (k w : ℕ) (l : k < shelves_in (length xs)) (wide : w ≡ 16945) (long : length ys ≡ w) where

@@ -60,6 +60,7 @@ fn shelves_in(bytes: &[u8]) -> usize
 fn clear_all(bytes: &mut [u8])
     ensures { Opened bytes.old bytes.new }
 {
+    // By index: no clause says what the pieces of `chunks_exact_mut` leave in the bytes.
     for k in 0..shelves_in(bytes) {
         clear(&mut bytes[k * SHELF..k * SHELF + SHELF]);
     }

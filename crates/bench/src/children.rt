@@ -20,8 +20,10 @@ impl Children {
     {
         match self {
             Children::No => NONE + atom,
-            Children::One(p) => SINGLE + (p as usize * ATOMS + atom),
-            Children::Two(p, q) => DOUBLE + ((p as usize * STATES + q as usize) * ATOMS + atom),
+            Children::One(p) => SINGLE + usize::from(p) * ATOMS + atom,
+            Children::Two(p, q) => DOUBLE
+                + (usize::from(p) * STATES + usize::from(q)) * ATOMS
+                + atom,
         }
     }
 

@@ -17,6 +17,7 @@ impl Shelf<'_> {
         requires shaped { AllShaped nodes.now }
         ensures { Roots (K.LabelKind.book kind.now).meaning self.now.table.now.atoms self.now.table.now.count (automaton self.now.bytes.now) nodes.now result }
     {
+        // A bench takes no memory but what it is lent, so there is a place for each node that a tree may have.
         let mut states = [0; NODES];
         for (i, node) in nodes.iter().enumerate() {
             let atom = atom_of(kind, self.table, node.label).ok_or(Refusal::UnknownLabel(i))?;

@@ -14,7 +14,7 @@ pub(crate) const NODES: usize = 1024;
 #[derive(Clone, Copy, Debug, PartialEq, Eq)]
 pub struct Node {
     pub label: u64,
-    // how many children it has: 0, 1 or 2
+    // how many children it has: 0, 1 or 2; a host may lend any number, and one above 2 is refused
     pub children: u8,
     // numbers of earlier nodes; that of an absent child is not read
     pub left: u16,
@@ -39,10 +39,11 @@ impl Node {
         requires { Below (length states.now) (line self) }
         ensures { result ≡ over (λ k. slice_index states.now k) (line self) }
     {
+        let state = |number: u16| states[usize::from(number)];
         match self.children {
             0 => Children::No,
-            1 => Children::One(states[self.left as usize]),
-            _ => Children::Two(states[self.left as usize], states[self.right as usize]),
+            1 => Children::One(state(self.left)),
+            _ => Children::Two(state(self.left), state(self.right)),
         }
     }
 }

@@ -53,7 +53,7 @@ impl Shelf<'_> {
         requires { state < (automaton self.now.bytes.now).size }
         ensures { result ≡ (automaton self.now.bytes.now).accepts state }
     {
-        self.bytes[FLAGS + state as usize] == 1
+        self.bytes[FLAGS + usize::from(state)] == 1
     }
 
     // The state of a node with these children and the atom.

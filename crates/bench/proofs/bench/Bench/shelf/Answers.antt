@@ -1,7 +1,7 @@
 use Rattle.std.proofs.Common.{ap, ◌∙◌, arith}
 use Rattle.std.specs.Slice.Iter.{chunks_exact_rest, chunks_exact_size}
 use Rattle.std.specs.Iterator.Runs.{IsChunksExactRun}
-use Rattle.bench.proofs.Places.{nth_stored}
+use Rattle.bench.proofs.Pieces.{nth_stored}
 use Rattle.bench.proofs.bench.Bench.shelf.Goals as goal
 
 pub returns : goal.returns
