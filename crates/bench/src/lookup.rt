@@ -37,12 +37,5 @@ fn guards_of<K: LabelKind>(kind: &K, x: u64) -> GuardSet
 fn find(table: &AtomTable, set: GuardSet) -> Option<usize>
     ensures { MatchOption result ((k : ℕ) → k < table.now.count → set_at table.now.atoms k ≢ set.0) (λ k. (k < table.now.count) × (set_at table.now.atoms k ≡ set.0)) }
 {
-    for k in 0..table.count() {
-        if let Some(atom) = table.atom(k)
-            && atom.guards.0 == set.0
-        {
-            return Some(k);
-        }
-    }
-    None
+    table.as_slice().iter().position(|atom| atom.guards == set)
 }
