@@ -19,13 +19,11 @@ pub fn minimize<M: TreeAutomaton>(
     next: &mut [u16],
     reps: &mut [u16],
 ) -> Result<usize, TooManyClasses>
-    requires sound { M.TreeAutomaton.sound m.now }
     requires classes_long { length classes.old ≡ (M.TreeAutomaton.meaning m.now).size }
     requires next_long { length next.old ≡ (M.TreeAutomaton.meaning m.now).size }
     requires reps_long { length reps.old ≡ 32 }
     ensures { Minimized (M.TreeAutomaton.letters m.now) (M.TreeAutomaton.meaning m.now) result classes.new reps.new }
 {
-    m.fit();
     classes.fill(0);
     reps[0] = 0;
     let mut count = 1;

@@ -16,7 +16,6 @@ fn class_beside<M: TreeAutomaton>(
     q: usize,
     a: usize,
 ) -> u16
-    requires sound { M.TreeAutomaton.sound m.now }
     requires long { length classes.now ≡ (M.TreeAutomaton.meaning m.now).size }
     requires left { x < (M.TreeAutomaton.meaning m.now).size }
     requires row { M.TreeAutomaton.prepared m.now x row.now }
@@ -24,7 +23,6 @@ fn class_beside<M: TreeAutomaton>(
     requires atom { a < M.TreeAutomaton.letters m.now }
     ensures { result ≡ at classes.now ((M.TreeAutomaton.meaning m.now).double x q a) }
 {
-    m.fit();
     classes[m.double(x, row, q, a)]
 }
 
@@ -35,13 +33,11 @@ pub fn beside_representatives<M: TreeAutomaton>(
     x: usize,
     row: &M::Row,
 ) -> [u16; 512]
-    requires sound { M.TreeAutomaton.sound m.now }
     requires partition { Partition (M.TreeAutomaton.meaning m.now) classes.of.now classes.reps.now classes.count }
     requires left { x < (M.TreeAutomaton.meaning m.now).size }
     requires row { M.TreeAutomaton.prepared m.now x row.now }
     ensures { TableOf (M.TreeAutomaton.letters m.now) (M.TreeAutomaton.meaning m.now) classes.entry.of.now classes.entry.reps.now classes.entry.count x result }
 {
-    m.fit();
     let mut table = [0; 512];
     for k in 0..classes.count * 16 {
         if k % 16 < m.atoms() {
@@ -62,7 +58,6 @@ pub fn first_difference<M: TreeAutomaton>(
     table: &[u16],
     start: usize,
 ) -> Option<usize>
-    requires sound { M.TreeAutomaton.sound m.now }
     requires long { length classes.now ≡ (M.TreeAutomaton.meaning m.now).size }
     requires left { x < (M.TreeAutomaton.meaning m.now).size }
     requires row { M.TreeAutomaton.prepared m.now x row.now }
@@ -70,7 +65,6 @@ pub fn first_difference<M: TreeAutomaton>(
     requires within { start + 16 ≤ length table.now }
     ensures { MatchOption result ((a : ℕ) → a < M.TreeAutomaton.letters m.now → at classes.now ((M.TreeAutomaton.meaning m.now).double x q a) ≡ at table.now (start + a)) (λ a. (a < M.TreeAutomaton.letters m.now) × (at classes.now ((M.TreeAutomaton.meaning m.now).double x q a) ≢ at table.now (start + a))) }
 {
-    m.fit();
     for a in 0..m.atoms() {
         if class_beside(m, classes, x, row, q, a) != table[start + a] {
             return Some(a);

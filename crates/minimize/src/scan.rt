@@ -10,7 +10,6 @@ use crate::test::{Found, Test, answer};
 
 // Whether p and its representative answer the test alike.
 fn alike<M: TreeAutomaton>(m: &M, classes: Classes<'_>, test: Test, p: usize) -> bool
-    requires sound { M.TreeAutomaton.sound m.now }
     requires partition { Partition (M.TreeAutomaton.meaning m.now) classes.of.now classes.reps.now classes.count }
     requires state { p < (M.TreeAutomaton.meaning m.now).size }
     requires valid { Valid (M.TreeAutomaton.letters m.now) (M.TreeAutomaton.meaning m.now) test }
@@ -22,7 +21,6 @@ fn alike<M: TreeAutomaton>(m: &M, classes: Classes<'_>, test: Test, p: usize) ->
 
 // Looks at p as the one child.
 fn single_of<M: TreeAutomaton>(m: &M, classes: Classes<'_>, p: usize) -> Option<Found>
-    requires sound { M.TreeAutomaton.sound m.now }
     requires partition { Partition (M.TreeAutomaton.meaning m.now) classes.of.now classes.reps.now classes.count }
     requires state { p < (M.TreeAutomaton.meaning m.now).size }
     ensures { Looked (SingleAlike p) (M.TreeAutomaton.letters m.now) (M.TreeAutomaton.meaning m.now) classes.entry.of.now classes.entry.reps.now result }
@@ -38,12 +36,10 @@ fn single_of<M: TreeAutomaton>(m: &M, classes: Classes<'_>, p: usize) -> Option<
 
 // Looks at p on the left of representatives.
 fn left_of<M: TreeAutomaton>(m: &M, classes: Classes<'_>, p: usize) -> Option<Found>
-    requires sound { M.TreeAutomaton.sound m.now }
     requires partition { Partition (M.TreeAutomaton.meaning m.now) classes.of.now classes.reps.now classes.count }
     requires state { p < (M.TreeAutomaton.meaning m.now).size }
     ensures { Looked (LeftAlike classes.entry.count p) (M.TreeAutomaton.letters m.now) (M.TreeAutomaton.meaning m.now) classes.entry.of.now classes.entry.reps.now result }
 {
-    m.fit();
     let row = m.row(p);
     let r = classes.representative(p);
     let table = beside_representatives(m, classes, r, &m.row(r));
@@ -59,12 +55,10 @@ fn left_of<M: TreeAutomaton>(m: &M, classes: Classes<'_>, p: usize) -> Option<Fo
 
 // Looks at all states on the right of x.
 fn right_of<M: TreeAutomaton>(m: &M, classes: Classes<'_>, x: usize) -> Option<Found>
-    requires sound { M.TreeAutomaton.sound m.now }
     requires partition { Partition (M.TreeAutomaton.meaning m.now) classes.of.now classes.reps.now classes.count }
     requires state { x < (M.TreeAutomaton.meaning m.now).size }
     ensures { Looked (RightAlike x) (M.TreeAutomaton.letters m.now) (M.TreeAutomaton.meaning m.now) classes.entry.of.now classes.entry.reps.now result }
 {
-    m.fit();
     let row = m.row(x);
     let table = beside_representatives(m, classes, x, &row);
     for y in 0..m.size() {
@@ -79,7 +73,6 @@ fn right_of<M: TreeAutomaton>(m: &M, classes: Classes<'_>, x: usize) -> Option<F
 
 // Looks at p: whether it accepts, as the one child, and on the left of representatives.
 fn near_of<M: TreeAutomaton>(m: &M, classes: Classes<'_>, p: usize) -> Option<Found>
-    requires sound { M.TreeAutomaton.sound m.now }
     requires partition { Partition (M.TreeAutomaton.meaning m.now) classes.of.now classes.reps.now classes.count }
     requires state { p < (M.TreeAutomaton.meaning m.now).size }
     ensures { Looked (Near classes.entry.count p) (M.TreeAutomaton.letters m.now) (M.TreeAutomaton.meaning m.now) classes.entry.of.now classes.entry.reps.now result }
@@ -101,7 +94,6 @@ fn near_between<M: TreeAutomaton>(
     low: usize,
     high: usize,
 ) -> Option<Found>
-    requires sound { M.TreeAutomaton.sound m.now }
     requires partition { Partition (M.TreeAutomaton.meaning m.now) classes.of.now classes.reps.now classes.count }
     requires within { high ≤ (M.TreeAutomaton.meaning m.now).size }
     ensures { Looked (Between low high (Near classes.entry.count)) (M.TreeAutomaton.letters m.now) (M.TreeAutomaton.meaning m.now) classes.entry.of.now classes.entry.reps.now result }
@@ -121,7 +113,6 @@ fn right_between<M: TreeAutomaton>(
     low: usize,
     high: usize,
 ) -> Option<Found>
-    requires sound { M.TreeAutomaton.sound m.now }
     requires partition { Partition (M.TreeAutomaton.meaning m.now) classes.of.now classes.reps.now classes.count }
     requires within { high ≤ (M.TreeAutomaton.meaning m.now).size }
     ensures { Looked (Between low high RightAlike) (M.TreeAutomaton.letters m.now) (M.TreeAutomaton.meaning m.now) classes.entry.of.now classes.entry.reps.now result }
@@ -136,7 +127,6 @@ fn right_between<M: TreeAutomaton>(
 
 // Looks at every state near the representatives, from `start` on and round to it again.
 fn near<M: TreeAutomaton>(m: &M, classes: Classes<'_>, start: usize) -> Option<Found>
-    requires sound { M.TreeAutomaton.sound m.now }
     requires partition { Partition (M.TreeAutomaton.meaning m.now) classes.of.now classes.reps.now classes.count }
     ensures { Looked (Between 0 (M.TreeAutomaton.meaning m.now).size (Near classes.entry.count)) (M.TreeAutomaton.letters m.now) (M.TreeAutomaton.meaning m.now) classes.entry.of.now classes.entry.reps.now result }
 {
@@ -150,7 +140,6 @@ fn near<M: TreeAutomaton>(m: &M, classes: Classes<'_>, start: usize) -> Option<F
 
 // Looks at all states on the right of every state, from `start` on and round to it again.
 fn far<M: TreeAutomaton>(m: &M, classes: Classes<'_>, start: usize) -> Option<Found>
-    requires sound { M.TreeAutomaton.sound m.now }
     requires partition { Partition (M.TreeAutomaton.meaning m.now) classes.of.now classes.reps.now classes.count }
     ensures { Looked (Between 0 (M.TreeAutomaton.meaning m.now).size RightAlike) (M.TreeAutomaton.letters m.now) (M.TreeAutomaton.meaning m.now) classes.entry.of.now classes.entry.reps.now result }
 {
@@ -170,7 +159,6 @@ pub fn find_split<M: TreeAutomaton>(
     state: usize,
     row: usize,
 ) -> Option<Found>
-    requires sound { M.TreeAutomaton.sound m.now }
     requires partition { Partition (M.TreeAutomaton.meaning m.now) classes.of.now classes.reps.now classes.count }
     ensures { Looked AllStable (M.TreeAutomaton.letters m.now) (M.TreeAutomaton.meaning m.now) classes.entry.of.now classes.entry.reps.now result }
 {

@@ -16,7 +16,6 @@ fn moved<M: TreeAutomaton>(
     kept: u16,
     p: usize,
 ) -> u16
-    requires sound { M.TreeAutomaton.sound m.now }
     requires partition { Partition (M.TreeAutomaton.meaning m.now) classes.of.now classes.reps.now classes.count }
     requires valid { Valid (M.TreeAutomaton.letters m.now) (M.TreeAutomaton.meaning m.now) test }
     requires states { (r < (M.TreeAutomaton.meaning m.now).size) × (p < (M.TreeAutomaton.meaning m.now).size) }
@@ -31,7 +30,6 @@ fn moved<M: TreeAutomaton>(
 
 // Writes the classes with the class of the found state parted by the found test.
 fn part<M: TreeAutomaton>(m: &M, classes: Classes<'_>, found: Found, next: &mut [u16])
-    requires sound { M.TreeAutomaton.sound m.now }
     requires partition { Partition (M.TreeAutomaton.meaning m.now) classes.of.now classes.reps.now classes.count }
     requires splits { Splits (M.TreeAutomaton.letters m.now) (M.TreeAutomaton.meaning m.now) classes.of.now classes.reps.now found }
     requires long { length next.old ≡ (M.TreeAutomaton.meaning m.now).size }
@@ -53,7 +51,6 @@ pub fn split<M: TreeAutomaton>(
     count: usize,
     found: Found,
 )
-    requires sound { M.TreeAutomaton.sound m.now }
     requires partition { Partition (M.TreeAutomaton.meaning m.now) classes.old reps.old count }
     requires splits { Splits (M.TreeAutomaton.letters m.now) (M.TreeAutomaton.meaning m.now) classes.old reps.old found }
     requires long { length next.old ≡ (M.TreeAutomaton.meaning m.now).size }
@@ -61,7 +58,6 @@ pub fn split<M: TreeAutomaton>(
     ensures parted { Parted (M.TreeAutomaton.meaning m.now) classes.old found.test (at reps.old (at classes.old found.state)) count classes.new }
     ensures chosen { reps.new ≡ slice_set reps.old count found.state }
 {
-    m.fit();
     let whole = Classes {
         of: classes,
         reps,

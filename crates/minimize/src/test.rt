@@ -39,13 +39,11 @@ pub struct Found {
 
 // What the test says of the state p.
 pub fn answer<M: TreeAutomaton>(m: &M, classes: &[u16], test: Test, p: usize) -> u16
-    requires sound { M.TreeAutomaton.sound m.now }
     requires state { p < (M.TreeAutomaton.meaning m.now).size }
     requires valid { Valid (M.TreeAutomaton.letters m.now) (M.TreeAutomaton.meaning m.now) test }
     requires long { length classes.now ≡ (M.TreeAutomaton.meaning m.now).size }
     ensures { result ≡ answer_of (M.TreeAutomaton.meaning m.now) classes.now test p }
 {
-    m.fit();
     match test {
         Test::Accepts => u16::from(m.accepts(p)),
         Test::Single(a) => classes[m.single(p, a)],

@@ -1,5 +1,7 @@
 // Automata given by tables.
 ghost use Rattle.std.specs.Prelude.{◌≡◌, ◌*◌, ◌≤◌, length};
+ghost use Rattle.std.proofs.Common.{rules};
+ghost use Rattle.std.proofs.lemmas.Grind.{common_steps};
 ghost use Rattle.minimize_tests.specs.Examples.{by_tables};
 
 use minimize::automaton::TreeAutomaton;
@@ -32,10 +34,6 @@ impl TreeAutomaton for Tables {
 
     ghost prepared = { λ s p row. row ≡ p * 6 };
 
-    ghost sound = { λ s. Unit {0} };
-
-    fn fit(&self) {}
-
     fn size(&self) -> usize {
         self.size
     }
@@ -63,4 +61,6 @@ impl TreeAutomaton for Tables {
     fn double(&self, _p: usize, row: &usize, q: usize, a: usize) -> usize {
         self.double[*row + q * 2 + a].min(self.size - 1)
     }
+
+    ghost fit = { λ s. Prim.search (rules, common_steps) };
 }
