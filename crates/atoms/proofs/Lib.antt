@@ -1,4 +1,3 @@
-pub mod Placing
 pub mod Exactness
 pub mod Covering
 pub mod Dividing
