@@ -1,5 +1,4 @@
 pub mod Exactness
 pub mod Covering
 pub mod Dividing
-pub mod Pigeonhole
 pub mod Tables

@@ -1,7 +1,12 @@
 -- What a list of all atoms gives the table that holds it.
-use Rattle.std.proofs.Common.{◌≡◌, ℕ, zero, suc, ◌+◌, ◌-◌, ◌<◌, ◌≤◌, List, [], ◌∷◌, ◌++◌, refl, length, All, sym, ap, ◌∙◌, subst, ⊎_elim, arith}
+use Rattle.std.proofs.Common.{◌≡◌, ℕ, zero, suc, ◌+◌, ◌-◌, ◌<◌, ◌≤◌, List, [], ◌∷◌, ◌++◌, refl, eqb, map, get_or, length, All, sym, ap, ◌∙◌, subst, ⊎_elim, arith}
 use Rattle.std.proofs.lemmas.List.{get_or_past, get_or_append_left, get_or-append_right}
-use Rattle.std.proofs.lemmas.Bool.{both_ways, cases_lt}
+use Rattle.std.proofs.lemmas.Bool.{both_ways, cases_lt, eqb-true, ne_eqb}
+use Rattle.std.proofs.lemmas.List.Folds.{Any-from_list_any}
+use Rattle.std.proofs.lemmas.List.FromFn.{get_or-map-range_with_len, length-map-range_with_len}
+use Rattle.std.proofs.lemmas.Map.Keys.{IsDistinct-from_apart}
+use Rattle.std.proofs.lemmas.Map.Steps.{length-le_from_distinct_below}
+use Rattle.std.specs.List.{range_with_len}
 use Rattle.labels.specs.Meaning.{Meaning, Lawful}
 use Rattle.labels.specs.Sets.{has}
 use Rattle.labels.proofs.Bits.{has_none}
@@ -9,7 +14,6 @@ use Rattle.atoms.specs.Atoms.{Exactly, IsAtom, Lists, MoreThan}
 use Rattle.atoms.specs.Entries.{blank, atom_at, label_at, set_at, Sound}
 use Rattle.atoms.specs.declared.atom.Atom.{Atom}
 use Rattle.atoms.proofs.Covering.{same_label}
-use Rattle.atoms.proofs.Pigeonhole.{pigeonhole}
 
 -- blank atoms after a list change none of its entries
 pub padded : (xs ys : List Atom) → All (λ a. a ≡ blank) ys → (k : ℕ) → atom_at (xs ++ ys) k ≡ atom_at xs k
@@ -85,8 +89,15 @@ module _ (m : Meaning) (law : Lawful m) (xs : List Atom) (l : Lists m xs (length
     -- no more labels than places are pairwise apart
     pub not_more : ⊥
     not_more =
-        let shared = pigeonhole count (λ k. (spot k).0) (λ k h. let lt = ((spot k).1 h).0 in omega arith) in
-        let lt = shared.2 in
-        let one = ((spot shared.0).1 (omega (arith, shared.3))).1 in
-        let two = ((spot shared.1).1 shared.3).1 in
-        more.apart shared.0 shared.1 lt shared.3 (λ g. sym (one.guards g) ∙ ap (λ j. has (set_at xs j) g) shared.4 ∙ two.guards g)
+        let place : ℕ → ℕ = λ k. (spot k).0 in
+        let places = map place (range_with_len 0 (count + 1)) in
+        let long = length-map-range_with_len place 0 (count + 1) in
+        let at : (k d : ℕ) → k < length places → get_or places k d ≡ place k = λ k d h. get_or-map-range_with_len place 0 (count + 1) k k d (omega arith) (omega arith) in
+        let held : (k : ℕ) → k < length places → (place k < length xs) × Exactly m (set_at xs (place k)) (more.at k) = λ k h. (spot k).1 (omega arith) in
+        let distinct = IsDistinct-from_apart eqb places (λ i j d lt h. ne_eqb _ _ (λ e.
+            let same = sym (at i d (omega arith)) ∙ e ∙ at j d h in
+            more.apart i j lt (omega arith) (λ g. sym ((held i (omega arith)).1.guards g) ∙ ap (λ k. has (set_at xs k) g) same ∙ (held j h).1.guards g))) in
+        let few = length-le_from_distinct_below places (length xs) distinct (λ q listed.
+            let a = Any-from_list_any (eqb q) places listed in
+            omega (arith, eqb-true q a.1 a.4, a.3, at a.0 a.1 a.2, (held a.0 a.2).0)) in
+        omega arith
