@@ -1,8 +1,7 @@
 -- From the atoms of the first g guards to those of the first g + 1.
-use Rattle.std.proofs.Common.{◌≡◌, ℕ, ◌+◌, ◌<◌, ◌≤◌, false, ◌&&◌, ◌||◌, eqb, ltb, ◌⊎◌, List, [], length, Ok, Err, sym, subst, inl, inr, ⊎_elim, arith}
+use Rattle.std.proofs.Common.{◌≡◌, ℕ, ◌+◌, ◌<◌, ◌≤◌, false, ◌&&◌, ◌||◌, eqb, ltb, ◌⊎◌, List, length, Ok, Err, sym, subst, inl, inr, ⊎_elim, arith}
 use Rattle.std.proofs.lemmas.Bool.{cases_lt}
 use Rattle.std.proofs.lemmas.List.{length_push}
-use Rattle.std.proofs.lemmas.List.Elements.{at_from_Contains}
 use Rattle.arrayvec.specs.ArrayVec.{ArrayVec}
 use Rattle.labels.specs.Meaning.{Meaning, Lawful}
 use Rattle.labels.specs.Sets.{has}
@@ -11,7 +10,7 @@ use Rattle.atoms.specs.Drafts.{Covers, Keeps, first, atom_of}
 use Rattle.atoms.specs.Entries.{blank, label_at, set_at}
 use Rattle.atoms.specs.declared.atom.Atom.{Atom}
 use Rattle.atoms.specs.declared.fault.TooManyAtoms.{TooManyAtoms}
-use Rattle.atoms.proofs.Covering.{covers_same, covers_none, same_label, pushed_covers, crowded}
+use Rattle.atoms.proofs.Covering.{covers_same, same_label, pushed_covers, crowded}
 use Rattle.atoms.proofs.Exactness.{same_set, only_first, split_exact, exact_with, exact_without, with_or_without, with_only, exact_none_yet, exact_all, all_exact}
 
 module _ {m : Meaning} {D : ℕ → Type 0} (d e : ArrayVec Atom) (s : ℕ) (new : (y : ℕ) → Exactly m s y → D y → ⊥) (c : Covers m D d.items) where
@@ -71,20 +70,6 @@ module _ (b : Meaning) (g : ℕ) (small : g < 32) (xs : List Atom) (c : Covers (
 
     pub next_covers : (ys : List Atom) → Covers (first (g + 1) b) (λ x. (Among (first g b) xs i x ⊎ Exactly (first (g + 1) b) w x) ⊎ Exactly (first (g + 1) b) (set_at xs i) x) ys → Covers (first (g + 1) b) (Among (first g b) xs (i + 1)) ys
     next_covers ys = covers_same to_next from_next
-
-  pub none_covers : Covers (first (g + 1) b) (Among (first g b) xs 0) []
-  none_covers = covers_same (λ x. absurd) (λ x a. let lt = a.1 in omega arith) (covers_none (first (g + 1) b))
-
-  pub all_covers : (ys : List Atom) (i : ℕ) → length xs ≤ i → Covers (first (g + 1) b) (Among (first g b) xs i) ys → Covers (first (g + 1) b) (λ x. Unit {0}) ys
-  all_covers ys i done d = record {
-    each = d.each;
-    inside = λ k a h. tt;
-    apart = d.apart;
-    whole = λ x e u.
-        let found = c.whole x e tt in
-        let at = at_from_Contains xs found.0 found.1 in
-        d.whole x e (at.0, let lt = at.1 in omega arith, subst (λ (a : Atom). Exactly (first g b) a.guards.0 x) (sym (at.2 blank)) found.2);
-  }
 
 -- the one atom among no guards
 pub first_covers : (b : Meaning) (s : ℕ) (ys : List Atom) → ((g : ℕ) → has s g ≡ false) → Covers (first 0 b) (λ x. ⊥ ⊎ Exactly (first 0 b) s x) ys → Covers (first 0 b) (λ x. Unit {0}) ys

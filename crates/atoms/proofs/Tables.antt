@@ -95,9 +95,9 @@ module _ (m : Meaning) (law : Lawful m) (xs : List Atom) (l : Lists m xs (length
         let at : (k d : ℕ) → k < length places → get_or places k d ≡ place k = λ k d h. get_or-map-range_with_len place 0 (count + 1) k k d (omega arith) (omega arith) in
         let held : (k : ℕ) → k < length places → (place k < length xs) × Exactly m (set_at xs (place k)) (more.at k) = λ k h. (spot k).1 (omega arith) in
         let distinct = IsDistinct-from_apart eqb places (λ i j d lt h. ne_eqb _ _ (λ e.
-            let same = sym (at i d (omega arith)) ∙ e ∙ at j d h in
-            more.apart i j lt (omega arith) (λ g. sym ((held i (omega arith)).1.guards g) ∙ ap (λ k. has (set_at xs k) g) same ∙ (held j h).1.guards g))) in
+        let same = sym (at i d (omega arith)) ∙ e ∙ at j d h in
+        more.apart i j lt (omega arith) (λ g. sym ((held i (omega arith)).1.guards g) ∙ ap (λ k. has (set_at xs k) g) same ∙ (held j h).1.guards g))) in
         let few = length-le_from_distinct_below places (length xs) distinct (λ q listed.
-            let a = Any-from_list_any (eqb q) places listed in
-            omega (arith, eqb-true q a.1 a.4, a.3, at a.0 a.1 a.2, (held a.0 a.2).0)) in
+        let a = Any-from_list_any (eqb q) places listed in
+        omega (arith, eqb-true q a.1 a.4, a.3, at a.0 a.1 a.2, (held a.0 a.2).0)) in
         omega arith

@@ -10,11 +10,11 @@ use Rattle.atoms.proofs.split.divide.Goals.{In_ok-keep}
 
 pub keep-requires-clause-only : goal.keep-requires-clause-only
 keep-requires-clause-only g c =
-    only_with (g.K.LabelKind.book c.args.kind.now).meaning c.args.g c.requires.small c.args.whole.now c.requires.gathered c.loop-atom.atom-index c.with.result.0 (omega (arith, c.loop-atom-test.true)) c.with.ensures
+    only_with (g.K.LabelKind.book c.args.kind.now).meaning c.args.g c.requires.small c.args.whole.now c.requires.gathered c.loop-atom.atom-index c.with.result.0 c.loop-atom-test.true c.with.ensures
 
 pub keep-requires-in-loop-atom-clause-only : goal.keep-requires-in-loop-atom-clause-only
 keep-requires-in-loop-atom-clause-only g c =
-    λ h up. only_at (g.K.LabelKind.book c.args.kind.now).meaning c.args.g c.requires.small c.args.whole.now c.requires.gathered c.loop-atom.atom-index (omega (arith, c.loop-atom-test.true)) h (omega arith)
+    λ h up. only_at (g.K.LabelKind.book c.args.kind.now).meaning c.args.g c.requires.small c.args.whole.now c.requires.gathered c.loop-atom.atom-index c.loop-atom-test.true h (omega arith)
 
 pub returns-in_err-keep : goal.returns-in_err-keep
 returns-in_err-keep g c =
@@ -22,7 +22,7 @@ returns-in_err-keep g c =
     MatchResult-from_err c.from_residual.result _ _ c.from_residual.ensures.0
     (λ _.
     kept_crowded c.loop-atom.parts c.keep.new.parts c.with.result.0
-    (new_with m c.args.g c.requires.small c.args.whole.now c.requires.gathered c.loop-atom.atom-index c.with.result.0 (omega (arith, c.loop-atom-test.true)) c.with.ensures)
+    (new_with m c.args.g c.requires.small c.args.whole.now c.requires.gathered c.loop-atom.atom-index c.with.result.0 c.loop-atom-test.true c.with.ensures)
     c.loop-atom.invariant m (c.args.g + 1) refl _ c.in_err-keep.ensures)
 
 -- after the atom with the guard
@@ -30,7 +30,7 @@ half : (g : given.Over) (c : In_ok-keep g) → Covers (first (c.args.g + 1) (g.K
 half g c =
     let m = (g.K.LabelKind.book c.args.kind.now).meaning in
     kept_covers c.loop-atom.parts c.keep.new.parts c.with.result.0
-    (new_with m c.args.g c.requires.small c.args.whole.now c.requires.gathered c.loop-atom.atom-index c.with.result.0 (omega (arith, c.loop-atom-test.true)) c.with.ensures)
+    (new_with m c.args.g c.requires.small c.args.whole.now c.requires.gathered c.loop-atom.atom-index c.with.result.0 c.loop-atom-test.true c.with.ensures)
     c.loop-atom.invariant _ c.in_ok-keep.ensures
 
 pub returns-in_err-keep-2 : goal.returns-in_err-keep-2
@@ -39,13 +39,13 @@ returns-in_err-keep-2 g c =
     MatchResult-from_err c.from_residual-in_err-keep-2.result _ _ c.from_residual-in_err-keep-2.ensures.0
     (λ _.
     kept_crowded c.keep.new.parts c.keep-in-loop-atom.new.parts (set_at c.args.whole.now c.loop-atom.atom-index)
-    (new_without m c.args.g c.requires.small c.args.whole.now c.requires.gathered c.loop-atom.atom-index c.with.result.0 (omega (arith, c.loop-atom-test.true)) c.with.ensures)
+    (new_without m c.args.g c.requires.small c.args.whole.now c.requires.gathered c.loop-atom.atom-index c.with.result.0 c.loop-atom-test.true c.with.ensures)
     (half g (goal.at.returns-in_err-keep-2 g c).In_ok-keep) m (c.args.g + 1) refl _ c.in_err-keep-2.ensures)
 
 pub loop-atom-preserved : goal.loop-atom-preserved
 loop-atom-preserved g c =
     let m = (g.K.LabelKind.book c.args.kind.now).meaning in
-    next_covers m c.args.g c.requires.small c.args.whole.now c.requires.gathered c.loop-atom.atom-index c.with.result.0 (omega (arith, c.loop-atom-test.true)) c.with.ensures _
+    next_covers m c.args.g c.requires.small c.args.whole.now c.requires.gathered c.loop-atom.atom-index c.with.result.0 c.loop-atom-test.true c.with.ensures _
     (kept_covers c.keep.new.parts c.keep-in-loop-atom.new.parts (set_at c.args.whole.now c.loop-atom.atom-index)
-    (new_without m c.args.g c.requires.small c.args.whole.now c.requires.gathered c.loop-atom.atom-index c.with.result.0 (omega (arith, c.loop-atom-test.true)) c.with.ensures)
+    (new_without m c.args.g c.requires.small c.args.whole.now c.requires.gathered c.loop-atom.atom-index c.with.result.0 c.loop-atom-test.true c.with.ensures)
     (half g (goal.at.loop-atom-preserved g c).In_ok-keep) _ c.in_ok-keep-2.ensures)
