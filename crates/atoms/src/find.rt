@@ -12,7 +12,6 @@ pub fn atoms<K: LabelKind>(kind: &K, table: &mut AtomTable) -> Result<(usize, u3
 {
     kind.lawful();
     let found = all_atoms(kind)?;
-    let count = kind.count();
-    *table = AtomTable::of_draft(&found, count);
+    *table = AtomTable::of_atoms(&found, kind.count());
     Ok((table.count(), table.guards()))
 }
