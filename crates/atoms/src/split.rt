@@ -13,7 +13,6 @@ use labels::set::GuardSet;
 pub fn all_atoms<K: LabelKind>(kind: &K) -> Result<ArrayVec<Atom, 16>, TooManyAtoms>
     ensures { Finds (K.LabelKind.book kind.now).meaning result }
 {
-    kind.lawful();
     let mut atoms = ArrayVec::new();
     keep(kind, GuardSet::none(), 0, &mut atoms)?;
     for g in 0..kind.count() {

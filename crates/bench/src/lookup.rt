@@ -23,14 +23,7 @@ pub fn atom_of<K: LabelKind>(kind: &K, table: &AtomTable, x: u64) -> Option<usiz
 fn guards_of<K: LabelKind>(kind: &K, x: u64) -> GuardSet
     ensures { (g : ℕ) → has result.0 g ≡ (K.LabelKind.book kind.now).meaning.holds g x }
 {
-    kind.lawful();
-    let mut set = GuardSet::none();
-    for g in 0..32 {
-        if kind.holds(g, x) {
-            set = set.with(g);
-        }
-    }
-    set
+    GuardSet::from_fn(|g| kind.holds(g, x))
 }
 
 // The place of the atom with exactly these guards.

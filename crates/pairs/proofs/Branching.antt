@@ -4,7 +4,7 @@ use Rattle.std.proofs.lemmas.Nat.{div-add-mod'}
 use Rattle.std.proofs.lemmas.Bool.{both_ways, cases_lt, and_parts, and_from, and_right}
 use Rattle.labels.specs.Meaning.{Meaning, Fits, IsLeast}
 use Rattle.labels.specs.Sets.{has}
-use Rattle.pairs.proofs.Labels.{first_is, second_is}
+use Rattle.pairs.specs.Laws.{first_is, second_is}
 use Rattle.pairs.specs.Pairs.{pair_meaning, pair_label, given_holds, first_of, second_of, value_at}
 use Rattle.pairs.specs.Search.{Seconds, Branch, Next, Searched, Narrow}
 use Rattle.pairs.specs.declared.pair.search.Path.{Path}

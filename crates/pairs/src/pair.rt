@@ -1,6 +1,7 @@
 // The pair of two narrow kinds: a label of each, and guards that hold where a guard of each holds.
 ghost use Rattle.std.specs.Prelude.{◌≡◌, ℕ, None};
 ghost use Rattle.labels.specs.Meaning.{Fresh};
+ghost use Rattle.pairs.specs.Laws.{pair_lawful};
 ghost use Rattle.pairs.specs.Pairs.{pair_book, pair_label, pair_meaning, value_at};
 
 mod search;
@@ -43,12 +44,6 @@ impl<A: NarrowKind, B: NarrowKind> LabelKind for Pair<A, B> {
 
     ghost book = { λ p. pair_book (A.LabelKind.book p.first).meaning (B.LabelKind.book p.second).meaning p.values.list p.values.guards };
 
-    fn lawful(&self) {
-        self.first.lawful();
-        self.second.lawful();
-        self.narrow();
-    }
-
     fn count(&self) -> u32 {
         self.values.count()
     }
@@ -85,9 +80,6 @@ impl<A: NarrowKind, B: NarrowKind> LabelKind for Pair<A, B> {
         if guard > 31 {
             return Err(AddFault::Guard);
         }
-        // each part has at most 32 guards
-        self.first.lawful();
-        self.second.lawful();
         let v = *value;
         if v.first >= self.first.count() || v.second >= self.second.count() {
             return Err(AddFault::Value);
@@ -98,4 +90,6 @@ impl<A: NarrowKind, B: NarrowKind> LabelKind for Pair<A, B> {
         self.values.put(guard, v);
         Ok(())
     }
+
+    ghost lawful = { λ p. pair_lawful (A.LabelKind.book p.first).meaning (B.LabelKind.book p.second).meaning p.values.list p.values.guards (A.lawful p.first) (B.lawful p.second) (A.narrow p.first) (B.narrow p.second) p.values.few p.values.known };
 }
