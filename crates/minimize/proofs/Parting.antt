@@ -23,14 +23,9 @@ tells n A classes (Right y a) p q v d = right y a v.0 (lt-ltb a n v.1) d
 module _ (n : ℕ) (A : Automaton) (classes : List ℕ) (t : Test) (r new : ℕ) (finer : List ℕ) (valid : Valid n A t) (parted : Parted A classes t r new finer) where
   same_part : (p q : ℕ) → p < A.size → q < A.size → at classes p ≡ at classes q → answer_of A classes t p ≡ answer_of A classes t q → at finer p ≡ at finer q
   same_part p q hp hq class answer =
-      ⊎_elim
-      (λ here.
-      ⊎_elim
-      (λ like. (parted p hp).stays like ∙ (class ∙ sym ((parted q hq).stays (sym answer ∙ like))))
-      (λ unlike. (parted p hp).goes here unlike ∙ sym ((parted q hq).goes (sym class ∙ here) (λ e. unlike (answer ∙ e))))
-      (cases_eq (answer_of A classes t p) (answer_of A classes t r)))
-      (λ elsewhere. (parted p hp).other elsewhere ∙ (class ∙ sym ((parted q hq).other (λ e. elsewhere (class ∙ e)))))
-      (cases_eq (at classes p) (at classes r))
+      let P = parted p hp in
+      let Q = parted q hq in
+      grind (arith, P, Q, class, answer)
 
   parted_refines : Refines (atoms_below n) A (at classes) (at finer)
   parted_refines p q hp hq apart =
@@ -47,21 +42,15 @@ module _ (n : ℕ) (A : Automaton) (classes reps : List ℕ) (count : ℕ) (f : 
   module _ (finer : List ℕ) (room : count < 32) (long : length finer ≡ A.size) (parted : Parted A classes f.test (at reps (at classes f.state)) count finer) where
     finer_below : (p : ℕ) → p < A.size → at finer p < count + 1
     finer_below p hp =
-        ⊎_elim
-        (λ here.
-        ⊎_elim
-        (λ like. omega (arith, (parted p hp).stays like, part.below p hp))
-        (λ unlike. omega (arith, (parted p hp).goes here unlike))
-        (cases_eq (answer_of A classes f.test p) (answer_of A classes f.test (at reps (at classes f.state)))))
-        (λ elsewhere. omega (arith, (parted p hp).other elsewhere, part.below p hp))
-        (cases_eq (at classes p) (at classes (at reps (at classes f.state))))
+        let moved = parted p hp in
+        let below = part.below p hp in
+        grind (arith, moved, below)
 
     stays_own : (i : ℕ) → i < count → at finer (at reps i) ≡ i
     stays_own i hi =
-        ⊎_elim
-        (λ here. (parted (at reps i) (part.within i hi)).stays (ap (λ j. answer_of A classes f.test (at reps j)) here) ∙ part.own i hi)
-        (λ elsewhere. (parted (at reps i) (part.within i hi)).other (λ e. elsewhere (sym (part.own i hi) ∙ (e ∙ own_class))) ∙ part.own i hi)
-        (cases_eq i (at classes f.state))
+        let moved = parted (at reps i) (part.within i hi) in
+        let own = part.own i hi in
+        grind (arith, moved, own, own_class)
 
     parted_partition : Partition A finer (set reps count f.state) (count + 1)
     parted_partition =
