@@ -87,16 +87,14 @@ module _ (n : ℕ) (A : Automaton) (classes reps : List ℕ) (count : ℕ) (f : 
         ⊎_elim
         (λ here.
         told (atoms_below n) A (at classes) complete separate (at reps i) f.state (part.within i hi) splits.state
-        (tells n A classes f.test (at reps i) f.state splits.valid (λ e. splits.differs (sym e ∙ ap (λ j. answer_of A classes f.test (at reps j)) here))))
-        (λ elsewhere. separate (at reps i) f.state (part.within i hi) splits.state (λ e. elsewhere (sym (part.own i hi) ∙ e)))
+        (tells n A classes f.test (at reps i) f.state splits.valid (λ e. let differs = splits.differs in grind (arith, differs, e, here))))
+        (λ elsewhere. let own = part.own i hi in separate (at reps i) f.state (part.within i hi) splits.state (λ e. grind (arith, own, e, elsewhere)))
         (cases_eq i (at classes f.state))
 
     pub too_many : ApartStates (atoms_below n) A 33
     too_many =
         record {
           state = state;
-          within = λ k hk. cond_both (ltb k 32) (at reps k) f.state (λ s. s < A.size) (λ e. part.within k (omega (arith, ltb-true k 32 e))) (λ e. splits.state);
-          apart = λ i j hij hj.
-              subst (λ s. ToldApart (atoms_below n) A s (state j)) (sym (cond-true (ltb i 32) (at reps i) f.state (lt-ltb i 32 (omega arith))))
-              (cond_both (ltb j 32) (at reps j) f.state (ToldApart (atoms_below n) A (at reps i)) (λ e. reps_apart i j hij (omega (arith, ltb-true j 32 e))) (λ e. found_apart i (omega arith)));
+          within = λ k hk. let within = part.within in let found = splits.state in grind (arith, within, found);
+          apart = λ i j hij hj. let among = reps_apart in let beside = found_apart in grind (arith, among, beside);
         }
