@@ -1,6 +1,7 @@
 -- One class more: what stays true when a class is parted.
-use Rattle.std.proofs.Common.{◌≡◌, ℕ, ◌+◌, ◌<◌, cond, ltb, List, length, set, sym, ap, ◌∙◌, subst, inl, inr, ⊎_elim, arith, length-set}
-use Rattle.std.proofs.lemmas.Bool.{cases_eq, cond_both, cond-true, lt-ltb, ltb-true}
+use Rattle.std.proofs.Common.{◌≡◌, ℕ, ◌+◌, ◌<◌, cond, ltb, List, length, set, sym, ap, ◌∙◌, inl, inr, ⊎_elim, arith, length-set}
+use Rattle.std.proofs.lemmas.Grind.{common_steps}
+use Rattle.std.proofs.lemmas.Bool.{cases_eq, lt-ltb}
 use Rattle.trees.specs.Automata.{Automaton, Complete}
 use Rattle.trees.specs.Classes.{ToldApart, Tells, accept, single, left, right, Refines, Separate}
 use Rattle.trees.proofs.Classes.{told, refined_classes}
@@ -11,7 +12,6 @@ use Rattle.minimize.specs.Tests.{at, answer_of, Valid, Splits}
 use Rattle.minimize.specs.declared.test.Found.{Found}
 use Rattle.minimize.specs.declared.test.Test.{Test}
 use Rattle.minimize.specs.declared.test.Test.TheVariants.{Accepts, Single, Left, Right}
-use Rattle.minimize.proofs.Writing.{written}
 
 -- states that answer a test differently are told apart by it
 tells : (n : ℕ) (A : Automaton) (classes : List ℕ) (t : Test) (p q : ℕ) → Valid n A t → (answer_of A classes t p ≡ answer_of A classes t q → ⊥) → Tells (atoms_below n) A (at classes) p q
@@ -61,8 +61,8 @@ module _ (n : ℕ) (A : Automaton) (classes reps : List ℕ) (count : ℕ) (f : 
           some = omega arith;
           few = omega arith;
           below = finer_below;
-          within = written (λ i v. v < A.size) reps count f.state inside part.within splits.state;
-          own = written (λ i v. at finer v ≡ i) reps count f.state inside stays_own ((parted f.state splits.state).goes (sym own_class) splits.differs);
+          within = λ i hi. let within = part.within in let found = splits.state in grind (arith, common_steps, inside, within, found);
+          own = λ i hi. let kept = stays_own in let new = (parted f.state splits.state).goes (sym own_class) splits.differs in grind (arith, common_steps, inside, kept, new);
         }
 
     -- one class more, and different classes are still told apart
