@@ -22,10 +22,7 @@ tells n A classes (Right y a) p q v d = right y a v.0 (lt-ltb a n v.1) d
 
 module _ (n : ℕ) (A : Automaton) (classes : List ℕ) (t : Test) (r new : ℕ) (finer : List ℕ) (valid : Valid n A t) (parted : Parted A classes t r new finer) where
   same_part : (p q : ℕ) → p < A.size → q < A.size → at classes p ≡ at classes q → answer_of A classes t p ≡ answer_of A classes t q → at finer p ≡ at finer q
-  same_part p q hp hq class answer =
-      let P = parted p hp in
-      let Q = parted q hq in
-      grind (arith, P, Q, class, answer)
+  same_part p q hp hq class answer = grind (arith, parted p hp, parted q hq, class, answer)
 
   parted_refines : Refines (atoms_below n) A (at classes) (at finer)
   parted_refines p q hp hq apart =
@@ -41,16 +38,10 @@ module _ (n : ℕ) (A : Automaton) (classes reps : List ℕ) (count : ℕ) (f : 
 
   module _ (finer : List ℕ) (room : count < 32) (long : length finer ≡ A.size) (parted : Parted A classes f.test (at reps (at classes f.state)) count finer) where
     finer_below : (p : ℕ) → p < A.size → at finer p < count + 1
-    finer_below p hp =
-        let moved = parted p hp in
-        let below = part.below p hp in
-        grind (arith, moved, below)
+    finer_below p hp = grind (arith, parted p hp, part.below p hp)
 
     stays_own : (i : ℕ) → i < count → at finer (at reps i) ≡ i
-    stays_own i hi =
-        let moved = parted (at reps i) (part.within i hi) in
-        let own = part.own i hi in
-        grind (arith, moved, own, own_class)
+    stays_own i hi = grind (arith, parted (at reps i) (part.within i hi), part.own i hi, own_class)
 
     parted_partition : Partition A finer (set reps count f.state) (count + 1)
     parted_partition =
@@ -61,8 +52,8 @@ module _ (n : ℕ) (A : Automaton) (classes reps : List ℕ) (count : ℕ) (f : 
           some = omega arith;
           few = omega arith;
           below = finer_below;
-          within = λ i hi. let within = part.within in let found = splits.state in grind (arith, common_steps, inside, within, found);
-          own = λ i hi. let kept = stays_own in let new = (parted f.state splits.state).goes (sym own_class) splits.differs in grind (arith, common_steps, inside, kept, new);
+          within = λ i hi. grind (arith, common_steps, inside, part.within, splits.state);
+          own = λ i hi. let new = (parted f.state splits.state).goes (sym own_class) splits.differs in grind (arith, common_steps, inside, stays_own, new);
         }
 
     -- one class more, and different classes are still told apart
@@ -87,14 +78,14 @@ module _ (n : ℕ) (A : Automaton) (classes reps : List ℕ) (count : ℕ) (f : 
         ⊎_elim
         (λ here.
         told (atoms_below n) A (at classes) complete separate (at reps i) f.state (part.within i hi) splits.state
-        (tells n A classes f.test (at reps i) f.state splits.valid (λ e. let differs = splits.differs in grind (arith, differs, e, here))))
-        (λ elsewhere. let own = part.own i hi in separate (at reps i) f.state (part.within i hi) splits.state (λ e. grind (arith, own, e, elsewhere)))
+        (tells n A classes f.test (at reps i) f.state splits.valid (λ e. grind (arith, splits.differs, e, here))))
+        (λ elsewhere. separate (at reps i) f.state (part.within i hi) splits.state (λ e. grind (arith, part.own i hi, e, elsewhere)))
         (cases_eq i (at classes f.state))
 
     pub too_many : ApartStates (atoms_below n) A 33
     too_many =
         record {
           state = state;
-          within = λ k hk. let within = part.within in let found = splits.state in grind (arith, within, found);
-          apart = λ i j hij hj. let among = reps_apart in let beside = found_apart in grind (arith, among, beside);
+          within = λ k hk. grind (arith, part.within, splits.state);
+          apart = λ i j hij hj. grind (arith, reps_apart, found_apart);
         }
