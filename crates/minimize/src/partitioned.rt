@@ -1,12 +1,11 @@
 // An automaton with its states put into classes.
-ghost use Rattle.std.specs.Prelude.{◌≡◌, ◌<◌, Decides};
 ghost use Rattle.minimize.specs.Partitions.{Partition};
-ghost use Rattle.minimize.specs.Tests.{Alike, answer_of, at, Valid};
 
 use crate::automaton::TreeAutomaton;
 use crate::test::Test;
 
 // The class of each state, and the representative of each of the classes, which are the numbers below count.
+// `count` stands beside `reps`, since `Partition` of the public contracts counts the 32 lent places.
 #[derive(Drop)]
 pub struct Partitioned<'a, M: TreeAutomaton> {
     pub machine: &'a M,
@@ -17,19 +16,23 @@ pub struct Partitioned<'a, M: TreeAutomaton> {
 }
 
 impl<M: TreeAutomaton> Partitioned<'_, M> {
+    ghost use Rattle.std.specs.Prelude.{◌≡◌, ◌<◌, Decides};
+    ghost use Rattle.minimize.specs.Looks.{automaton, letters, class_of, rep_of, says, AnswersAlike};
+    ghost use Rattle.minimize.specs.Tests.{Valid};
+
     // The representative of the class of p.
     pub fn representative(&self, p: usize) -> usize
-        requires state { p < (M.meaning self.now.machine.now).size }
-        ensures { result ≡ at self.now.reps.now (at self.now.classes.now p) }
+        requires state { p < (automaton self.now).size }
+        ensures { result ≡ rep_of self.now (class_of self.now p) }
     {
         self.reps[self.classes[p] as usize] as usize
     }
 
     // What the test says of the state p.
     pub fn answer(&self, test: Test, p: usize) -> u16
-        requires state { p < (M.meaning self.now.machine.now).size }
-        requires valid { Valid (M.letters self.now.machine.now) (M.meaning self.now.machine.now) test }
-        ensures { result ≡ answer_of (M.meaning self.now.machine.now) self.now.classes.now test p }
+        requires state { p < (automaton self.now).size }
+        requires valid { Valid (letters self.now) (automaton self.now) test }
+        ensures { result ≡ says self.now test p }
     {
         let m = self.machine;
         match test {
@@ -42,9 +45,9 @@ impl<M: TreeAutomaton> Partitioned<'_, M> {
 
     // Whether p and its representative answer the test alike.
     pub fn alike(&self, test: Test, p: usize) -> bool
-        requires state { p < (M.meaning self.now.machine.now).size }
-        requires valid { Valid (M.letters self.now.machine.now) (M.meaning self.now.machine.now) test }
-        ensures { Decides result (Alike (M.meaning self.now.machine.now) self.now.classes.now self.now.reps.now test p) }
+        requires state { p < (automaton self.now).size }
+        requires valid { Valid (letters self.now) (automaton self.now) test }
+        ensures { Decides result (AnswersAlike self.now test p) }
     {
         let r = self.representative(p);
         self.answer(test, p) == self.answer(test, r)

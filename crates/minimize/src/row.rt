@@ -1,6 +1,7 @@
 // The classes that one left child leads to.
-ghost use Rattle.std.specs.Prelude.{◌≡◌, ℕ, ◌<◌, MatchOption, ◌≢◌};
-ghost use Rattle.minimize.specs.Rows.{RowOf, TableOf};
+ghost use Rattle.std.specs.Prelude.{◌≡◌, ◌<◌, MatchOption, ◌≢◌};
+ghost use Rattle.minimize.specs.Looks.{automaton, letters};
+ghost use Rattle.minimize.specs.Rows.{beside, RowOf, TableOf};
 ghost use Rattle.minimize.specs.Tests.{at};
 
 use crate::automaton::TreeAutomaton;
@@ -9,23 +10,24 @@ use crate::partitioned::Partitioned;
 impl<M: TreeAutomaton> Partitioned<'_, M> {
     // The class that x on the left, q on the right and the atom a lead to.
     pub fn class_beside(&self, x: usize, row: &M::Row, q: usize, a: usize) -> u16
-        requires left { x < (M.meaning self.now.machine.now).size }
+        requires left { x < (automaton self.now).size }
         requires row { M.prepared self.now.machine.now x row.now }
-        requires right { q < (M.meaning self.now.machine.now).size }
-        requires atom { a < M.letters self.now.machine.now }
-        ensures { result ≡ at self.now.classes.now ((M.meaning self.now.machine.now).double x q a) }
+        requires right { q < (automaton self.now).size }
+        requires atom { a < letters self.now }
+        ensures { result ≡ beside self.now x q a }
     {
         self.classes[self.machine.double(x, row, q, a)]
     }
 
     // The classes that x on the left and q on the right lead to, by atom.
     fn classes_beside(&self, x: usize, row: &M::Row, q: usize) -> [u16; 16]
-        requires left { x < (M.meaning self.now.machine.now).size }
+        requires left { x < (automaton self.now).size }
         requires row { M.prepared self.now.machine.now x row.now }
-        requires right { q < (M.meaning self.now.machine.now).size }
-        ensures { RowOf (M.letters self.now.machine.now) (M.meaning self.now.machine.now) self.now.classes.now x q result }
+        requires right { q < (automaton self.now).size }
+        ensures { RowOf self.now (letters self.now) x q result }
     {
         let mut classes = [0; 16];
+        // by index: the contract of `array::from_fn` does not say that the calls leave its closure as it was
         for a in 0..self.machine.atoms() {
             classes[a] = self.class_beside(x, row, q, a);
         }
@@ -34,9 +36,9 @@ impl<M: TreeAutomaton> Partitioned<'_, M> {
 
     // For each representative on the right of x, the classes that they lead to.
     pub fn beside_representatives(&self, x: usize, row: &M::Row) -> [[u16; 16]; 32]
-        requires left { x < (M.meaning self.now.machine.now).size }
+        requires left { x < (automaton self.now).size }
         requires row { M.prepared self.now.machine.now x row.now }
-        ensures { TableOf (M.letters self.now.machine.now) (M.meaning self.now.machine.now) self.now.classes.now self.now.reps.now self.now.count x result }
+        ensures { TableOf self.now self.now.count x result }
     {
         let mut table = [[0; 16]; 32];
         for (i, &q) in self.reps[..self.count].iter().enumerate() {
@@ -53,11 +55,17 @@ impl<M: TreeAutomaton> Partitioned<'_, M> {
         q: usize,
         wanted: &[u16; 16],
     ) -> Option<usize>
-        requires left { x < (M.meaning self.now.machine.now).size }
+        requires left { x < (automaton self.now).size }
         requires row { M.prepared self.now.machine.now x row.now }
-        requires right { q < (M.meaning self.now.machine.now).size }
-        ensures { MatchOption result (RowOf (M.letters self.now.machine.now) (M.meaning self.now.machine.now) self.now.classes.now x q wanted.now) (λ a. (a < M.letters self.now.machine.now) × (at wanted.now a ≢ at self.now.classes.now ((M.meaning self.now.machine.now).double x q a))) }
+        requires right { q < (automaton self.now).size }
+        ensures { MatchOption result (RowOf self.now (letters self.now) x q wanted.now) (λ a. (a < letters self.now) × (at wanted.now a ≢ beside self.now x q a)) }
     {
-        (0..self.machine.atoms()).find(|&a| self.class_beside(x, row, q, a) != wanted[a])
+        // `find` with a closure takes a third longer over all states
+        for a in 0..self.machine.atoms() {
+            if self.class_beside(x, row, q, a) != wanted[a] {
+                return Some(a);
+            }
+        }
+        None
     }
 }

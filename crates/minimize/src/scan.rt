@@ -1,6 +1,6 @@
 // Looks for a state that answers a test otherwise than the representative of its class.
 ghost use Rattle.std.specs.Prelude.{ℕ, ◌<◌, ◌≤◌, MatchOption, None, Some};
-ghost use Rattle.minimize.specs.Tests.{AllStable, Everywhere, LeftAlike, Looked, Near, RightAlike, SingleAlike};
+ghost use Rattle.minimize.specs.Looks.{automaton, AllStable, Everywhere, LeftAlike, Looked, Near, RightAlike, SingleAlike};
 
 use crate::automaton::TreeAutomaton;
 use crate::partitioned::Partitioned;
@@ -11,6 +11,7 @@ fn find_between<F: Fn(usize) -> Option<Found>>(low: usize, high: usize, look: F)
     requires { (p : ℕ) → low ≤ p → p < high → F.pre look p }
     ensures { MatchOption result ((p : ℕ) → low ≤ p → p < high → F.post look p None) (λ found. (p : ℕ) × (low ≤ p) × (p < high) × F.post look p (Some found)) }
 {
+    // with `find_map` the proof has to follow the calls of `look`; here one invariant does
     for p in low..high {
         if let Some(found) = look(p) {
             return Some(found);
@@ -28,11 +29,12 @@ fn find_round<F: Fn(usize) -> Option<Found>>(size: usize, start: usize, look: F)
     find_between(middle, size, &look).or_else(|| find_between(0, middle, &look))
 }
 
+// These use `for` and `if let`: a closure that calls a look has to repeat its clauses.
 impl<M: TreeAutomaton> Partitioned<'_, M> {
     // Looks at p as the one child.
     fn single_of(&self, p: usize) -> Option<Found>
-        requires { p < (M.meaning self.now.machine.now).size }
-        ensures { Looked (SingleAlike p) (M.letters self.now.machine.now) (M.meaning self.now.machine.now) self.now.classes.now self.now.reps.now result }
+        requires { p < (automaton self.now).size }
+        ensures { Looked self.now (SingleAlike self.now p) result }
     {
         for a in 0..self.machine.atoms() {
             let test = Test::Single(a);
@@ -45,8 +47,8 @@ impl<M: TreeAutomaton> Partitioned<'_, M> {
 
     // Looks at p on the left of representatives.
     fn left_of(&self, p: usize) -> Option<Found>
-        requires { p < (M.meaning self.now.machine.now).size }
-        ensures { Looked (LeftAlike self.now.count p) (M.letters self.now.machine.now) (M.meaning self.now.machine.now) self.now.classes.now self.now.reps.now result }
+        requires { p < (automaton self.now).size }
+        ensures { Looked self.now (LeftAlike self.now p) result }
     {
         let row = self.machine.row(p);
         let r = self.representative(p);
@@ -63,8 +65,8 @@ impl<M: TreeAutomaton> Partitioned<'_, M> {
 
     // Looks at all states on the right of x.
     fn right_of(&self, x: usize) -> Option<Found>
-        requires { x < (M.meaning self.now.machine.now).size }
-        ensures { Looked (RightAlike x) (M.letters self.now.machine.now) (M.meaning self.now.machine.now) self.now.classes.now self.now.reps.now result }
+        requires { x < (automaton self.now).size }
+        ensures { Looked self.now (RightAlike self.now x) result }
     {
         let row = self.machine.row(x);
         let table = self.beside_representatives(x, &row);
@@ -79,8 +81,8 @@ impl<M: TreeAutomaton> Partitioned<'_, M> {
 
     // Looks at p: whether it accepts, as the one child, and on the left of representatives.
     fn near_of(&self, p: usize) -> Option<Found>
-        requires { p < (M.meaning self.now.machine.now).size }
-        ensures { Looked (Near self.now.count p) (M.letters self.now.machine.now) (M.meaning self.now.machine.now) self.now.classes.now self.now.reps.now result }
+        requires { p < (automaton self.now).size }
+        ensures { Looked self.now (Near self.now p) result }
     {
         let test = Test::Accepts;
         if !self.alike(test, p) {
@@ -94,28 +96,28 @@ impl<M: TreeAutomaton> Partitioned<'_, M> {
 
     // Looks at every state near the representatives, from `start` on and round to it again.
     fn near(&self, start: usize) -> Option<Found>
-        ensures { Looked (Everywhere (Near self.now.count)) (M.letters self.now.machine.now) (M.meaning self.now.machine.now) self.now.classes.now self.now.reps.now result }
+        ensures { Looked self.now (Everywhere self.now (Near self.now)) result }
     {
         find_round(
             self.machine.size(),
             start,
             |p|
-                requires { p < (M.meaning self.now.machine.now).size }
-                ensures { Looked (Near self.entry.now.count p) (M.letters self.entry.now.machine.now) (M.meaning self.entry.now.machine.now) self.entry.now.classes.now self.entry.now.reps.now result }
+                requires { p < (automaton self.now).size }
+                ensures { Looked self.entry.now (Near self.entry.now p) result }
             { self.near_of(p) },
         )
     }
 
     // Looks at all states on the right of every state, from `start` on and round to it again.
     fn far(&self, start: usize) -> Option<Found>
-        ensures { Looked (Everywhere RightAlike) (M.letters self.now.machine.now) (M.meaning self.now.machine.now) self.now.classes.now self.now.reps.now result }
+        ensures { Looked self.now (Everywhere self.now (RightAlike self.now)) result }
     {
         find_round(
             self.machine.size(),
             start,
             |x|
-                requires { x < (M.meaning self.now.machine.now).size }
-                ensures { Looked (RightAlike x) (M.letters self.entry.now.machine.now) (M.meaning self.entry.now.machine.now) self.entry.now.classes.now self.entry.now.reps.now result }
+                requires { x < (automaton self.now).size }
+                ensures { Looked self.entry.now (RightAlike self.entry.now x) result }
             { self.right_of(x) },
         )
     }
@@ -123,7 +125,7 @@ impl<M: TreeAutomaton> Partitioned<'_, M> {
     // Looks for a split, and far from the representatives only where there is none near them. Where the looking starts does
     // not matter to whether there is one.
     pub fn find_split(&self, state: usize, row: usize) -> Option<Found>
-        ensures { Looked AllStable (M.letters self.now.machine.now) (M.meaning self.now.machine.now) self.now.classes.now self.now.reps.now result }
+        ensures { Looked self.now (AllStable self.now) result }
     {
         if let Some(found) = self.near(state) {
             return Some(found);
