@@ -15,7 +15,6 @@ pub(crate) fn all_rounds<E: Entry, S: Stepping<E>>(
     found: &mut Numbering<'_, '_, E>,
     firsts: &mut [u16],
 ) -> Result<(), Full>
-    requires sound { S.Stepping.sound steps.now }
     requires room { Room found.old.entries.now firsts.old }
     requires empty { found.old.len ≡ 0 }
     ensures explores { Explores (S.Stepping.steps steps.now) found.old.entries.now result found.new.entries.now found.new.len firsts.new }
@@ -37,13 +36,11 @@ fn leaves<E: Entry, S: Stepping<E>>(
     found: &mut Numbering<'_, '_, E>,
     firsts: &mut [u16],
 ) -> Result<(), Full>
-    requires sound { S.Stepping.sound steps.now }
     requires room { Room found.old.entries.now firsts.old }
     requires empty { found.old.len ≡ 0 }
     ensures advances { Advances (S.Stepping.steps steps.now) found.old.entries.now found.old.len 0 0 result found.new.entries.now found.new.len firsts.new 3 0 0 0 }
     ensures lent { found.new.entries.ghost_name ≡ found.old.entries.ghost_name }
 {
-    steps.fit();
     for a in 0..steps.atoms() {
         let tried = Tried {
             left: ABSENT,
@@ -64,14 +61,12 @@ fn single_from<E: Entry, S: Stepping<E>>(
     old: usize,
     start: usize,
 ) -> Result<(), Full>
-    requires sound { S.Stepping.sound steps.now }
     requires room { Room found.old.entries.now firsts.old }
     requires turn { (old ≤ p) × (p < start) }
     requires at { InRound (S.Stepping.steps steps.now) (entry_at (S.Stepping.steps steps.now) found.old.entries.now) (first_at firsts.old) found.old.len old start 1 p 0 0 }
     ensures advances { Advances (S.Stepping.steps steps.now) found.old.entries.now found.old.len old start result found.new.entries.now found.new.len firsts.new 1 (p + 1) 0 0 }
     ensures lent { found.new.entries.ghost_name ≡ found.old.entries.ghost_name }
 {
-    steps.fit();
     let below = found.get(p);
     for a in 0..steps.atoms() {
         let tried = Tried {
@@ -95,7 +90,6 @@ fn double_from<E: Entry, S: Stepping<E>>(
     old: usize,
     start: usize,
 ) -> Result<(), Full>
-    requires sound { S.Stepping.sound steps.now }
     requires room { Room found.old.entries.now firsts.old }
     requires turn { (p < start) × (q < start) × ((old ≤ p) ⊎ (old ≤ q)) }
     requires row { S.Stepping.prepared steps.now (entry_at (S.Stepping.steps steps.now) found.old.entries.now p) row.now }
@@ -103,7 +97,6 @@ fn double_from<E: Entry, S: Stepping<E>>(
     ensures advances { Advances (S.Stepping.steps steps.now) found.old.entries.now found.old.len old start result found.new.entries.now found.new.len firsts.new 2 p (q + 1) 0 }
     ensures lent { found.new.entries.ghost_name ≡ found.old.entries.ghost_name }
 {
-    steps.fit();
     let left = found.get(p);
     let right = found.get(q);
     for a in 0..steps.atoms() {
@@ -126,14 +119,12 @@ fn doubles_from<E: Entry, S: Stepping<E>>(
     old: usize,
     start: usize,
 ) -> Result<(), Full>
-    requires sound { S.Stepping.sound steps.now }
     requires room { Room found.old.entries.now firsts.old }
     requires turn { p < start }
     requires at { InRound (S.Stepping.steps steps.now) (entry_at (S.Stepping.steps steps.now) found.old.entries.now) (first_at firsts.old) found.old.len old start 2 p 0 0 }
     ensures advances { Advances (S.Stepping.steps steps.now) found.old.entries.now found.old.len old start result found.new.entries.now found.new.len firsts.new 2 (p + 1) 0 0 }
     ensures lent { found.new.entries.ghost_name ≡ found.old.entries.ghost_name }
 {
-    steps.fit();
     let row = steps.row(&found.get(p));
     let from = if p < old { old } else { 0 };
     for q in from..start {
@@ -150,7 +141,6 @@ fn singles<E: Entry, S: Stepping<E>>(
     old: usize,
     start: usize,
 ) -> Result<(), Full>
-    requires sound { S.Stepping.sound steps.now }
     requires room { Room found.old.entries.now firsts.old }
     requires at { InRound (S.Stepping.steps steps.now) (entry_at (S.Stepping.steps steps.now) found.old.entries.now) (first_at firsts.old) found.old.len old start 1 old 0 0 }
     ensures advances { Advances (S.Stepping.steps steps.now) found.old.entries.now found.old.len old start result found.new.entries.now found.new.len firsts.new 2 0 0 0 }
@@ -170,7 +160,6 @@ fn doubles<E: Entry, S: Stepping<E>>(
     old: usize,
     start: usize,
 ) -> Result<(), Full>
-    requires sound { S.Stepping.sound steps.now }
     requires room { Room found.old.entries.now firsts.old }
     requires at { InRound (S.Stepping.steps steps.now) (entry_at (S.Stepping.steps steps.now) found.old.entries.now) (first_at firsts.old) found.old.len old start 2 0 0 0 }
     ensures advances { Advances (S.Stepping.steps steps.now) found.old.entries.now found.old.len old start result found.new.entries.now found.new.len firsts.new 3 0 0 0 }
@@ -190,7 +179,6 @@ fn round<E: Entry, S: Stepping<E>>(
     old: usize,
     start: usize,
 ) -> Result<(), Full>
-    requires sound { S.Stepping.sound steps.now }
     requires room { Room found.old.entries.now firsts.old }
     requires at { InRound (S.Stepping.steps steps.now) (entry_at (S.Stepping.steps steps.now) found.old.entries.now) (first_at firsts.old) found.old.len old start 1 old 0 0 }
     ensures advances { Advances (S.Stepping.steps steps.now) found.old.entries.now found.old.len old start result found.new.entries.now found.new.len firsts.new 3 0 0 0 }

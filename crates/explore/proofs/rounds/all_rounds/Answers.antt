@@ -11,7 +11,6 @@ round-requires g c =
     let inv = c.loop-start.invariant in
     let long : length c.loop-start.found.entries.now ≡ length c.args.found.now.entries.now = inv.1 ∙ c.in_ok-leaves.ensures.advances.1.long in
     record {
-      sound = c.requires.sound;
       room = record { long = omega (arith, c.requires.room.long, c.loop-start.auto.firsts); small = omega (arith, c.requires.room.small) };
       at = subst (λ s. InRound S (entry_at S c.loop-start.found.entries.now) (first_at c.loop-start.firsts) c.loop-start.found.len c.loop-start.start s 1 c.loop-start.start 0 0) (sym c.len-start.ensures) (next_round inv.0.1);
     }

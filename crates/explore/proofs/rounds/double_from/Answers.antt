@@ -9,9 +9,8 @@ use Rattle.explore.proofs.rounds.double_from.Goals as goal
 pub double-requires : goal.double-requires
 double-requires g c =
     let S = g.S.Stepping.steps c.args.steps.now in
-    let fine = all_fine c.fit.ensures c.requires.at in
+    let fine = all_fine (g.met.S.Stepping.fit c.args.steps.now) c.requires.at in
     record {
-      sound = c.requires.sound;
       left = ap S.fine (sym (c.get-left.ensures (S.none 0))) ∙ fine c.args.p (omega (arith, c.requires.turn.0, c.requires.at.ordered.1));
       right = ap S.fine (sym (c.get-right.ensures (S.none 0))) ∙ fine c.args.q (omega (arith, c.requires.turn.1, c.requires.at.ordered.1));
       row = subst (λ x. g.S.Stepping.prepared c.args.steps.now x c.args.row.now) (c.get-left.ensures (S.none 0)) c.requires.row;

@@ -10,8 +10,7 @@ pub row-row-requires : goal.row-row-requires
 row-row-requires g c =
     let S = g.S.Stepping.steps c.args.steps.now in
     record {
-      sound = c.requires.sound;
-      fine = ap S.fine (sym (c.get.ensures (S.none 0))) ∙ all_fine c.fit.ensures c.requires.at c.args.p (omega (arith, c.requires.turn, c.requires.at.ordered.1));
+      fine = ap S.fine (sym (c.get.ensures (S.none 0))) ∙ all_fine (g.met.S.Stepping.fit c.args.steps.now) c.requires.at c.args.p (omega (arith, c.requires.turn, c.requires.at.ordered.1));
     }
 
 pub loop-q-init : goal.loop-q-init

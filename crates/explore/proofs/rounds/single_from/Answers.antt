@@ -10,8 +10,7 @@ pub single-requires : goal.single-requires
 single-requires g c =
     let S = g.S.Stepping.steps c.args.steps.now in
     record {
-      sound = c.requires.sound;
-      fine = ap S.fine (sym (c.get-below.ensures (S.none 0))) ∙ all_fine c.fit.ensures c.requires.at c.args.p (omega (arith, c.requires.turn.1, c.requires.at.ordered.1));
+      fine = ap S.fine (sym (c.get-below.ensures (S.none 0))) ∙ all_fine (g.met.S.Stepping.fit c.args.steps.now) c.requires.at c.args.p (omega (arith, c.requires.turn.1, c.requires.at.ordered.1));
       label = omega (arith, c.loop-a-test.true, c.atoms-a-end.ensures);
     }
 

@@ -6,4 +6,4 @@ use Rattle.explore.proofs.search.explore.Goals as goal
 pub returns : goal.returns
 returns g c =
     let found = c.all_rounds.new.found in
-    listed_at (g.S.Stepping.steps c.args.steps.now) g.E.Entry.equal c.exact.ensures found.entries.now _ (first_at c.all_rounds.new.firsts) found.len c.len.result (search rules) c.len.ensures found.within c.in_ok-all_rounds.ensures.explores.0
+    listed_at (g.S.Stepping.steps c.args.steps.now) g.E.PartialEq.eq g.met.E.Entry.exact found.entries.now _ (first_at c.all_rounds.new.firsts) found.len c.len.result (search rules) c.len.ensures found.within c.in_ok-all_rounds.ensures.explores.0
