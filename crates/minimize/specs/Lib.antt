@@ -1,5 +1,6 @@
 pub mod Automata
 pub mod Tests
 pub mod Partitions
+pub mod Looks
 pub mod Rows
 pub mod Minimized

@@ -1,8 +1,6 @@
 -- Tests of states, and what they say of states in one class.
-use Rattle.std.specs.Prelude.{◌≡◌, ℕ, ◌<◌, ◌≤◌, cond, List, Option, MatchOption, slice_index}
+use Rattle.std.specs.Prelude.{◌≡◌, ℕ, ◌<◌, cond, List, slice_index}
 use Rattle.trees.specs.Automata.{Automaton}
-use Rattle.trees.specs.Classes.{Stable}
-use Rattle.minimize.specs.Automata.{atoms_below}
 use Rattle.minimize.specs.declared.test.Test.{Test}
 use Rattle.minimize.specs.declared.test.Test.TheVariants.{Accepts, Single, Left, Right}
 use Rattle.minimize.specs.declared.test.Found.{Found}
@@ -34,36 +32,3 @@ pub record Splits (n : ℕ) (A : Automaton) (classes reps : List ℕ) (f : Found
   pub state : f.state < A.size
   pub valid : Valid n A f.test
   pub differs : Alike A classes reps f.test f.state → ⊥
-
--- what was looked at: a fact of n atoms, the automaton, the classes and their representatives
-abbrev pub Fact : Type 1
-Fact = ℕ → Automaton → List ℕ → List ℕ → Type 0
-
--- a state that splits its class was found, or all that was looked at is alike
-abbrev pub Looked : Fact → ℕ → Automaton → List ℕ → List ℕ → Option Found → Type 0
-Looked All n A classes reps r = MatchOption r (All n A classes reps) (Splits n A classes reps)
-
--- p is alike as the one child
-abbrev pub SingleAlike : ℕ → Fact
-SingleAlike p n A classes reps = (a : ℕ) → a < n → Alike A classes reps (Single a) p
-
--- p is alike on the left of each of the representatives
-abbrev pub LeftAlike : ℕ → ℕ → Fact
-LeftAlike count p n A classes reps = (i a : ℕ) → i < count → a < n → Alike A classes reps (Left (at reps i) a) p
-
--- all states are alike on the right of x
-abbrev pub RightAlike : ℕ → Fact
-RightAlike x n A classes reps = (y a : ℕ) → y < A.size → a < n → Alike A classes reps (Right x a) y
-
--- p is alike under every test but those with a state on its left or with one that is no representative on its right
-pub record Near (count p n : ℕ) (A : Automaton) (classes reps : List ℕ) : Type 0 where
-  pub accepts : Alike A classes reps Accepts p
-  pub single : SingleAlike p n A classes reps
-  pub left : LeftAlike count p n A classes reps
-
--- the fact holds of the states from low on, below high
-abbrev pub Between : ℕ → ℕ → (ℕ → Fact) → Fact
-Between low high P n A classes reps = (p : ℕ) → low ≤ p → p < high → P p n A classes reps
-
-abbrev pub AllStable : Fact
-AllStable n A classes reps = Stable (atoms_below n) A (at classes)
