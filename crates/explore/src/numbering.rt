@@ -23,7 +23,7 @@ impl<E: Entry> Lookup<'_, '_, E> {
     }
 
     // The place of the entry: where the hints say, or else by the plain search.
-    pub fn find(&self, e: &E) -> Option<usize>
+    pub(crate) fn find(&self, e: &E) -> Option<usize>
         ensures { Finds self.now.entries.now (length self.now.entries.now) e.now result }
     {
         // Not `or_else`: nothing is known of what its closure answers without a clause longer than this.
