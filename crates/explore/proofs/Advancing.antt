@@ -1,68 +1,92 @@
 -- A combination tried takes the search on by one position.
-use Rattle.std.proofs.Common.{◌≡◌, ℕ, zero, suc, ◌+◌, ◌<◌, ◌≤◌, true, cond, eqb, ◌⊎◌, List, [], ◌∷◌, length, get_or, set, Ok, Err, Result, sym, refl, ap, ◌∙◌, subst, ap₂, ⊎_elim, arith, length-set}
+use Rattle.std.proofs.Common.{◌≡◌, ℕ, zero, suc, ◌+◌, ◌<◌, ◌≤◌, true, List, [], ◌∷◌, get_or, set, Ok, Err, Result, sym, refl, ap, ◌∙◌, subst, ⊎_elim, arith}
 use Rattle.std.proofs.lemmas.List.{get_or_default}
-use Rattle.std.proofs.lemmas.Bool.{cond-false, ne_eqb, ltb-true, lt-ltb}
+use Rattle.std.proofs.lemmas.Bool.{ltb-true, lt-ltb}
 use Rattle.trees.specs.Rounds.{Combination, nullary, unary, binary, Allowed, Below, key}
 use Rattle.explore.specs.Steps.{Steps, Fit, apply, letters}
-use Rattle.explore.specs.Firsts.{first_at, combination}
+use Rattle.explore.specs.Firsts.{first_at}
 use Rattle.explore.specs.Numbers.{At}
-use Rattle.explore.specs.Rounds.{InRound, Tries, Grows, Advances, MoreThan, entry_at}
+use Rattle.explore.specs.Rounds.{InRound, MoreThan, entry_at}
+use Rattle.explore.specs.Search.{Grows, Tries, Turn, Stands, GoesOn, over, count, left, right}
 use Rattle.explore.specs.declared.full.Full.{Full}
+use Rattle.explore.specs.declared.numbering.Numbering.{Numbering}
+use Rattle.explore.specs.declared.rounds.Round.{Round}
+use Rattle.explore.specs.declared.trying.Children.{Children}
 use Rattle.explore.proofs.Places.{before_new, at_new}
 use Rattle.explore.proofs.Positions.{found_again, found_new, leaf_turn, single_turn, double_turn}
+use Rattle.explore.proofs.Progress.{apply_same}
 use Rattle.explore.proofs.Finding.{too_many}
 
 -- ---- things that stay
 
-pub grows_none : {E : Type 0} (es : List E) (n : ℕ) → Grows es n es n
-grows_none es n = record { long = refl; more = omega arith; kept = λ k d h. refl }
+pub grows_none : {E : Type 0} (s : Numbering E) → Grows s s
+grows_none s = record { long = refl; more = omega arith; kept = λ k d h. refl; lent = refl }
 
-pub grows_more : {E : Type 0} (ds : List E) (n : ℕ) (es : List E) (m : ℕ) (fs : List E) (o : ℕ) → Grows ds n es m → Grows es m fs o → Grows ds n fs o
-grows_more ds n es m fs o a b = record {
+pub grows_more : {E : Type 0} {s t u : Numbering E} → Grows s t → Grows t u → Grows s u
+grows_more a b = record {
   long = b.long ∙ a.long;
   more = omega (arith, a.more, b.more);
   kept = λ k d h. b.kept k d (omega (arith, a.more)) ∙ a.kept k d h;
+  lent = b.lent ∙ a.lent;
 }
 
-pub grows_push : {E : Type 0} (es : List E) (n : ℕ) (e : E) → n < length es → Grows es n (set es n e) (n + 1)
-grows_push es n e room = record { long = simp length-set; more = omega arith; kept = λ k d h. before_new es n e room k d h }
+goes_more : {E : Type 0} (S : Steps E) (s t : Numbering E) (r : Round) (answer : Result (Unit {0}) Full) (u : Numbering E) (cells : List ℕ) (children p q a : ℕ) → Grows s t → GoesOn S t r answer u cells children p q a → GoesOn S s r answer u cells children p q a
+goes_more S s t r (Ok done) u cells children p q a g h = (h.0, grows_more g h.1)
+goes_more S s t r (Err full) u cells children p q a g h = subst (λ n. MoreThan n S) g.long h
 
-pub advances_more : {E : Type 0} (S : Steps E) (ds : List E) (n : ℕ) (es : List E) (m : ℕ) (old start : ℕ) (r : Result (Unit {0}) Full) (fs : List E) (o : ℕ) (cells : List ℕ) (children p q a : ℕ) → Grows ds n es m → Advances S es m old start r fs o cells children p q a → Advances S ds n old start r fs o cells children p q a
-advances_more S ds n es m old start (Ok done) fs o cells children p q a g h = (h.0, grows_more ds n es m fs o g h.1)
-advances_more S ds n es m old start (Err full) fs o cells children p q a g h = subst (λ x. MoreThan x S) g.long h
+-- ---- the children whose turn it is
+
+turn_below : (r : Round) (c : Children) (a n : ℕ) → r.start ≤ n → Turn r c → Below n (over c a)
+turn_below r Children.None a n known turn = tt
+turn_below r (Children.One p) a n known turn = omega (arith, turn.1)
+turn_below r (Children.Two p q) a n known turn = (omega (arith, turn.0), omega (arith, turn.1))
+
+turn_key : {E : Type 0} {S : Steps E} {entry : ℕ → E} {first : ℕ → Combination} {n : ℕ} (r : Round) (c : Children) (a : ℕ) → Turn r c → (w : InRound S entry first n r.old r.start (count c) (left c) (right c) a) → key w.round (over c a) ≡ w.this ∷ count c ∷ left c ∷ right c ∷ a ∷ []
+turn_key r Children.None a turn w = leaf_turn w refl refl refl
+turn_key r (Children.One p) a turn w = single_turn w refl refl turn.0 turn.1
+turn_key r (Children.Two p q) a turn w = double_turn w refl turn.0 turn.1 turn.2
+
+allowed_label : (n : ℕ) (c : Children) (a : ℕ) → a < n → Allowed (letters n) (over c a)
+allowed_label n Children.None a h = lt-ltb a n h
+allowed_label n (Children.One p) a h = lt-ltb a n h
+allowed_label n (Children.Two p q) a h = lt-ltb a n h
 
 -- ---- the combination at the position
 
-module _ {E : Type 0} (S : Steps E) (ds : List E) (n : ℕ) (cells : List ℕ) (old start children p q a : ℕ) (w : InRound S (entry_at S ds) (first_at cells) n old start children p q a) (within : n ≤ length ds) (c : Combination) (b : Below n c) (l : Allowed (letters S.atoms) c) (turn : key w.round c ≡ w.this ∷ children ∷ p ∷ q ∷ a ∷ []) (e : E) (is : e ≡ apply S (entry_at S ds) c) where
+module _ {E : Type 0} (S : Steps E) (s : Numbering E) (cells : List ℕ) (r : Round) (c : Children) (a : ℕ) (turn : Turn r c) (stands : Stands S s cells r (count c) (left c) (right c) a) (label : a < S.atoms) (e : E) (is : e ≡ apply S (entry_at S s.entries.now) (over c a)) where
+  abbrev way : InRound S (entry_at S s.entries.now) (first_at cells) s.len r.old r.start (count c) (left c) (right c) a
+  way = stands.at
+
   -- what is not found is not there
-  missing : ((k : ℕ) → k < n → ((d : E) → get_or ds k d ≡ e) → ⊥) → (k : ℕ) → k < n → entry_at S ds k ≡ apply S (entry_at S ds) c → ⊥
-  missing new k h same = new k h (λ d. get_or_default ds k d (S.none 0) (omega arith) ∙ same ∙ sym is)
+  missing : ((k : ℕ) → k < s.len → ((d : E) → get_or s.entries.now k d ≡ e) → ⊥) → (k : ℕ) → k < s.len → entry_at S s.entries.now k ≡ apply S (entry_at S s.entries.now) (over c a) → ⊥
+  missing new k h same = new k h (λ d. get_or_default s.entries.now k d (S.none 0) (omega (arith, s.within)) ∙ same ∙ sym is)
 
-  pub tries_advance : (r : Result (Unit {0}) Full) (es : List E) (m : ℕ) (after : List ℕ) → Tries ds n cells c e r es m after → Advances S ds n old start r es m after children p q (a + 1)
-  tries_advance (Ok done) es m after t =
-      ⊎_elim
-      (λ old'.
-      rw (old'.3, old'.4, old'.5)
-      (found_again w c b l turn old'.0 old'.1 (old'.2 (S.none 0) ∙ is), grows_none ds n))
-      (λ new.
-      rw (new.2, new.3)
-      (found_new w c b l turn (entry_at S (set ds n e)) (first_at after) (λ k h. before_new ds n e new.1 k (S.none 0) h) (at_new ds n e new.1 (S.none 0) ∙ is) new.4.kept new.4.here (missing new.0), grows_push ds n e new.1))
-      t
-  tries_advance (Err full) es m after t = subst (λ x. MoreThan x S) t.1 (too_many w c b l turn (missing t.0))
+  tries_on : (answer : Result (Unit {0}) Full) (t : Numbering E) (after : List ℕ) → Tries s cells (over c a) e answer t after → GoesOn S s r answer t after (count c) (left c) (right c) (a + 1)
+  tries_on (Ok done) t after tried =
+      let b = turn_below r c a s.len way.ordered.1 turn in
+      let l = allowed_label S.atoms c a label in
+      let k = turn_key r c a turn way in
+      let ds = s.entries.now in
+      let room = stands.room in (
+        ⊎_elim
+            (λ old. record {
+              room = rw (old.3, old.5) room;
+              at = rw (old.3, old.4, old.5) (found_again way (over c a) b l k old.0 old.1 (old.2 (S.none 0) ∙ is));
+            })
+            (λ new. record {
+              room = record { long = omega (arith, tried.1.long, room.long, new.4.long); small = omega (arith, tried.1.long, room.small) };
+              at = rw (new.2, new.3) (found_new way (over c a) b l k (entry_at S (set ds s.len e)) (first_at after) (λ k h. before_new ds s.len e new.1 k (S.none 0) h) (at_new ds s.len e new.1 (S.none 0) ∙ is) new.4.kept new.4.here (missing new.0));
+            })
+            tried.0,
+        tried.1,
+      )
+  tries_on (Err full) t after tried = subst (λ x. MoreThan x S) tried.1 (too_many way (over c a) (turn_below r c a s.len way.ordered.1 turn) (allowed_label S.atoms c a label) (turn_key r c a turn way) (missing tried.0))
 
--- from where the function began; c' is how the cells say c
-pub go_on : {E : Type 0} (S : Steps E) (bs : List E) (k : ℕ) (ds : List E) (n : ℕ) (cells : List ℕ) (old start children p q a : ℕ) (w : InRound S (entry_at S ds) (first_at cells) n old start children p q a) → Grows bs k ds n → n ≤ length ds → (c c' : Combination) → c' ≡ c → Below n c → Allowed (letters S.atoms) c → key w.round c ≡ w.this ∷ children ∷ p ∷ q ∷ a ∷ [] → (e : E) → e ≡ apply S (entry_at S ds) c → (r : Result (Unit {0}) Full) (es : List E) (m : ℕ) (after : List ℕ) → Tries ds n cells c' e r es m after → Advances S bs k old start r es m after children p q (a + 1)
-go_on S bs k ds n cells old start children p q a w g within c c' same b l turn e is r es m after t =
-    advances_more S bs k ds n old start r es m after children p q (a + 1) g (tries_advance S ds n cells old start children p q a w within c b l turn e is r es m after (subst (λ x. Tries ds n cells x e r es m after) same t))
-
--- ---- how the cells say a combination
-
-pub single_said : (p a : ℕ) → p < 65535 → combination p 65535 a ≡ unary p a
-single_said p a h = cond-false (eqb p 65535) (nullary a) (unary p a) (ne_eqb p 65535 (omega arith))
-
-pub double_said : (p q a : ℕ) → p < 65535 → q < 65535 → combination p q a ≡ binary p q a
-double_said p q a h k =
-    cond-false (eqb p 65535) (nullary a) (cond (eqb q 65535) (unary p a) (binary p q a)) (ne_eqb p 65535 (omega arith)) ∙ cond-false (eqb q 65535) (unary p a) (binary p q a) (ne_eqb q 65535 (omega arith))
+-- from where the labels began
+pub label_on : {E : Type 0} (S : Steps E) (s t : Numbering E) (cells : List ℕ) (r : Round) (c : Children) (a : ℕ) → Turn r c → r.start ≤ s.len → Stands S t cells r (count c) (left c) (right c) a → Grows s t → a < S.atoms → (e : E) → e ≡ apply S (entry_at S s.entries.now) (over c a) → (answer : Result (Unit {0}) Full) (u : Numbering E) (after : List ℕ) → Tries t cells (over c a) e answer u after → GoesOn S s r answer u after (count c) (left c) (right c) (a + 1)
+label_on S s t cells r c a turn known stands g label e is answer u after tried =
+    let same = apply_same S s.len (entry_at S t.entries.now) (entry_at S s.entries.now) (λ k h. g.kept k (S.none 0) h) (over c a) (turn_below r c a s.len known turn) in
+    goes_more S s t r answer u after (count c) (left c) (right c) (a + 1) g (tries_on S t cells r c a turn stands label e (is ∙ sym same) answer u after tried)
 
 -- ---- all things found may be asked about
 
@@ -83,22 +107,6 @@ module _ {E : Type 0} {S : Steps E} (fit : Fit S) (entry : ℕ → E) (first : �
 pub all_fine : {E : Type 0} {S : Steps E} → Fit S → {entry : ℕ → E} {first : ℕ → Combination} {n old start children p q a : ℕ} → InRound S entry first n old start children p q a → (k : ℕ) → k < n → S.fine (entry k) ≡ true
 all_fine fit {entry = entry} {first = first} {n = n} w = made_fine fit entry first n w.way.allowed w.way.earlier w.way.made
 
--- ---- one label tried: of a childless node, over the thing x of number p, over the things x and y of numbers p and q
-
-module _ {E : Type 0} (S : Steps E) (bs : List E) (k : ℕ) (ds : List E) (n : ℕ) (cells : List ℕ) (g : Grows bs k ds n) (within : n ≤ length ds) (small : length ds < 65536) where
-  kept_at : (p : ℕ) (x : E) → p < k → At bs p x → x ≡ entry_at S ds p
-  kept_at p x h is = sym (is (S.none 0)) ∙ sym (g.kept p (S.none 0) h)
-
-  pub leaf_on : (a : ℕ) (w : InRound S (entry_at S ds) (first_at cells) n 0 0 0 0 0 a) → a < S.atoms → (e : E) → e ≡ S.none a → (r : Result (Unit {0}) Full) (es : List E) (m : ℕ) (after : List ℕ) → Tries ds n cells (nullary a) e r es m after → Advances S bs k 0 0 r es m after 0 0 0 (a + 1)
-  leaf_on a w la e is = go_on S bs k ds n cells 0 0 0 0 0 a w g within (nullary a) (nullary a) refl tt (lt-ltb a S.atoms la) (leaf_turn w refl refl refl) e is
-
-  module _ (old start p : ℕ) (known : start ≤ k) (x : E) (at : At bs p x) where
-    pub single_on : (a : ℕ) (w : InRound S (entry_at S ds) (first_at cells) n old start 1 p 0 a) → old ≤ p → p < start → a < S.atoms → (e : E) → e ≡ S.single x a → (r : Result (Unit {0}) Full) (es : List E) (m : ℕ) (after : List ℕ) → Tries ds n cells (combination p 65535 a) e r es m after → Advances S bs k old start r es m after 1 p 0 (a + 1)
-    single_on a w low high la e is =
-        let more = g.more in
-        go_on S bs k ds n cells old start 1 p 0 a w g within (unary p a) (combination p 65535 a) (single_said p a (omega arith)) (omega arith) (lt-ltb a S.atoms la) (single_turn w refl refl low high) e (is ∙ ap (λ z. S.single z a) (kept_at p x (omega arith) at))
-
-    pub double_on : (q : ℕ) (y : E) → At bs q y → (a : ℕ) (w : InRound S (entry_at S ds) (first_at cells) n old start 2 p q a) → p < start → q < start → (old ≤ p) ⊎ (old ≤ q) → a < S.atoms → (e : E) → e ≡ S.double x y a → (r : Result (Unit {0}) Full) (es : List E) (m : ℕ) (after : List ℕ) → Tries ds n cells (combination p q a) e r es m after → Advances S bs k old start r es m after 2 p q (a + 1)
-    double_on q y at-q a w lp lq new la e is =
-        let more = g.more in
-        go_on S bs k ds n cells old start 2 p q a w g within (binary p q a) (combination p q a) (double_said p q a (omega arith) (omega arith)) (omega arith, omega arith) (lt-ltb a S.atoms la) (double_turn w refl lp lq new) e (is ∙ ap₂ (λ z z'. S.double z z' a) (kept_at p x (omega arith) at) (kept_at q y (omega arith) at-q))
+-- a thing that was got by its number
+pub fine_at : {E : Type 0} {S : Steps E} {s : Numbering E} {cells : List ℕ} {r : Round} {children p q a : ℕ} → Fit S → Stands S s cells r children p q a → (k : ℕ) → k < s.len → (e : E) → At s.entries.now k e → S.fine e ≡ true
+fine_at {S = S} fit stands k h e at = ap S.fine (sym (at (S.none 0))) ∙ all_fine fit stands.at k h

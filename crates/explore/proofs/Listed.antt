@@ -7,8 +7,10 @@ use Rattle.trees.proofs.Running
 use Rattle.trees.proofs.Running.{step_below}
 use Rattle.explore.specs.Steps.{Steps, apply}
 use Rattle.explore.specs.Places.{place_of}
+use Rattle.explore.specs.Firsts.{first_at}
 use Rattle.explore.specs.Listing.{numbers_of, Listed}
 use Rattle.explore.specs.Rounds.{Found, entry_at}
+use Rattle.explore.specs.declared.numbering.Numbering.{Numbering}
 use Rattle.explore.proofs.Places.{place_at}
 use Rattle.explore.proofs.Progress.{apply_same}
 
@@ -78,5 +80,6 @@ module _ {E : Type 0} (S : Steps E) (equal : E → E → Bool) (exact : (x y : E
       }
 
 -- as the caller finds the places when the numbering is gone
-pub listed_at : {E : Type 0} (S : Steps E) (equal : E → E → Bool) (exact : (x y : E) → Decides (equal x y) (x ≡ y)) (es after : List E) (first : ℕ → Combination) (n m : ℕ) → after ≡ es → m ≡ n → n ≤ length es → Found S (entry_at S es) first n → (m ≤ length after) × Listed S equal (take m after) first
-listed_at S equal exact es after first n m same count within found = rw (same, count) (within, listed S equal exact es first n within found)
+pub listed_at : {E : Type 0} (S : Steps E) (equal : E → E → Bool) (exact : (x y : E) → Decides (equal x y) (x ≡ y)) (t : Numbering E) (es : List E) (cells : List ℕ) (n : ℕ) → es ≡ t.entries.now → n ≡ t.len → Found S (entry_at S t.entries.now) (first_at cells) t.len → (n ≤ length es) × Listed S equal (take n es) (first_at cells)
+listed_at S equal exact t es cells n places count found =
+    rw (places, count) (t.within, listed S equal exact t.entries.now (first_at cells) t.len t.within found)

@@ -1,8 +1,10 @@
 -- Entries at their places.
-use Rattle.std.proofs.Common.{◌≡◌, ℕ, zero, suc, ◌+◌, ◌<◌, Bool, false, ◌≢◌, List, [], ◌∷◌, length, get_or, set, Decides, sym, refl, ◌∙◌, subst, ⊎_elim, arith, get_or-set_other, get_or-set_same}
-use Rattle.std.proofs.lemmas.List.{get_or_default}
-use Rattle.std.proofs.lemmas.Bool.{cases_lt, cases_Bool, cond-true, cond-false}
-use Rattle.explore.specs.Numbers.{At, Alike}
+use Rattle.std.proofs.Common.{None, Some, Option, unwrap_or, take, length-take, ◌≤◌, ◌≡◌, ℕ, zero, suc, ◌+◌, ◌<◌, Bool, true, false, ◌≢◌, List, [], ◌∷◌, length, get_or, set, Decides, sym, refl, ◌∙◌, subst, ⊎_elim, arith, get_or-set_other, get_or-set_same}
+use Rattle.std.proofs.lemmas.List.{get_or_default, get_or-take, length-take-le}
+use Rattle.std.proofs.lemmas.Bool.{cases_lt, cases_Bool, both_ways, cond-true, cond-false}
+use Rattle.std.specs.List.{AllWithin, HoldsAt}
+use Rattle.std.specs.Option.{MatchOption}
+use Rattle.explore.specs.Numbers.{At, Alike, Finds}
 use Rattle.explore.specs.Places.{place_of}
 
 -- a new entry behind the first n leaves each there once
@@ -22,6 +24,13 @@ module _ {E : Type 0} (es : List E) (n : ℕ) (e : E) (room : n < length es) whe
       let low : i < n = omega arith in
       new i low (λ d. sym (before_new i d low) ∙ alike d ∙ subst (λ m. get_or (set es n e) m d ≡ e) (sym e') (at_new d)))
       (cases_lt j n)
+
+-- found among the first n
+pub finds_taken : {E : Type 0} (es : List E) (n : ℕ) (e : E) (r : Option ℕ) → n ≤ length es → Finds (take n es) (length (take n es)) e r → Finds es n e r
+finds_taken es n e None h none = λ k lt at. none k (simp length-take (omega arith)) (λ d. rw get_or-take (at d))
+finds_taken es n e (Some k) h found =
+    let low : k < n = subst (λ m. k < m) (length-take-le n es h) found.0 in
+    (low, λ d. sym (get_or-take n es k d low) ∙ found.1 d)
 
 -- ---- the place of a thing
 
@@ -45,6 +54,14 @@ module _ {E : Type 0} (equal : E → E → Bool) (exact : (x y : E) → Decides 
   place_missing (x ∷ xs) e none =
       let other : equal x e ≡ false = ⊎_elim (λ same. absurd (none 0 (omega arith) (λ d. (exact x e).0 same))) (λ differs. differs) (cases_Bool (equal x e)) in
       cond-false (equal x e) 0 (place_of equal xs e + 1) other ∙ omega (arith, place_missing xs e (λ k h at. none (suc k) (omega arith) at))
+
+  pub place_finds : (es : List E) (e : E) (r : Option ℕ) → ((i j : ℕ) → i < j → j < length es → Alike es i j → ⊥) → Finds es (length es) e r → unwrap_or r (length es) ≡ place_of equal es e
+  place_finds es e None once none = sym (place_missing es e none)
+  place_finds es e (Some k) once found = sym (place_found es k e once found.0 found.1)
+
+  pub finds_first : (es : List E) (e : E) (r : Option ℕ) → MatchOption r (AllWithin (λ x. equal x e ≡ false) es 0 (length es)) (λ i. (i < length es) × HoldsAt (λ x. equal x e ≡ true) es i × AllWithin (λ x. equal x e ≡ false) es 0 i) → Finds es (length es) e r
+  finds_first es e None none = λ k h at. both_ways (equal (get_or es k e) e) (none k e (omega arith) h) ((exact (get_or es k e) e).1 (at e))
+  finds_first es e (Some k) found = (found.0, λ d. (exact (get_or es k d) e).0 (found.1 d))
 
   -- what stands at the place of a thing that is there
   pub place_is : (es : List E) (e d : E) → place_of equal es e < length es → get_or es (place_of equal es e) d ≡ e

@@ -76,10 +76,10 @@ module _ {E : Type 0} {S : Steps E} {entry : ℕ → E} {first : ℕ → Combina
   -- ---- behind the last state
 
   -- states found in this round are not used in it
-  pub next_left : (p : ℕ) → InRound S entry first n old start 2 p start 0 → InRound S entry first n old start 2 (p + 1) 0 0
-  next_left p w = move w 2 (p + 1) 0 0 (omega arith) (inr (refl, inr (refl, inl (omega arith)))) between
+  pub next_left : (p q : ℕ) → q ≡ start → InRound S entry first n old start 2 p q 0 → InRound S entry first n old start 2 (p + 1) 0 0
+  next_left p q end w = move w 2 (p + 1) 0 0 (omega arith) (inr (refl, inr (refl, inl (omega arith)))) between
     where
-      between : (c : Combination) → Below n c → Allowed (letters S.atoms) c → Less (key w.round c) (w.this ∷ 2 ∷ (p + 1) ∷ 0 ∷ 0 ∷ []) → Less (key w.round c) (w.this ∷ 2 ∷ p ∷ start ∷ 0 ∷ [])
+      between : (c : Combination) → Below n c → Allowed (letters S.atoms) c → Less (key w.round c) (w.this ∷ 2 ∷ (p + 1) ∷ 0 ∷ 0 ∷ []) → Less (key w.round c) (w.this ∷ 2 ∷ p ∷ q ∷ 0 ∷ [])
       between (nullary a) b l h = grind arith
       between (unary x a) b l h = grind arith
       between (binary x y a) b l h = let f = found_in w y b.1 in grind arith
@@ -93,18 +93,18 @@ module _ {E : Type 0} {S : Steps E} {entry : ℕ → E} {first : ℕ → Combina
       between (unary x a) b l h = grind arith
       between (binary x y a) b l h = let f = found_in w x b.0 in let g = found_in w y b.1 in grind arith
 
-  pub to_doubles : InRound S entry first n old start 1 start 0 0 → InRound S entry first n old start 2 0 0 0
-  to_doubles w = move w 2 0 0 0 (omega arith) (inr (refl, inl (omega arith))) between
+  pub to_doubles : (p : ℕ) → p ≡ start → InRound S entry first n old start 1 p 0 0 → InRound S entry first n old start 2 0 0 0
+  to_doubles p end w = move w 2 0 0 0 (omega arith) (inr (refl, inl (omega arith))) between
     where
-      between : (c : Combination) → Below n c → Allowed (letters S.atoms) c → Less (key w.round c) (w.this ∷ 2 ∷ 0 ∷ 0 ∷ 0 ∷ []) → Less (key w.round c) (w.this ∷ 1 ∷ start ∷ 0 ∷ 0 ∷ [])
+      between : (c : Combination) → Below n c → Allowed (letters S.atoms) c → Less (key w.round c) (w.this ∷ 2 ∷ 0 ∷ 0 ∷ 0 ∷ []) → Less (key w.round c) (w.this ∷ 1 ∷ p ∷ 0 ∷ 0 ∷ [])
       between (nullary a) b l h = grind arith
       between (unary x a) b l h = let f = found_in w x b in grind arith
       between (binary x y a) b l h = grind arith
 
-  pub doubles_done : InRound S entry first n old start 2 start 0 0 → InRound S entry first n old start 3 0 0 0
-  doubles_done w = move w 3 0 0 0 (omega arith) (inr (refl, inl (omega arith))) between
+  pub doubles_done : (p : ℕ) → p ≡ start → InRound S entry first n old start 2 p 0 0 → InRound S entry first n old start 3 0 0 0
+  doubles_done p end w = move w 3 0 0 0 (omega arith) (inr (refl, inl (omega arith))) between
     where
-      between : (c : Combination) → Below n c → Allowed (letters S.atoms) c → Less (key w.round c) (w.this ∷ 3 ∷ 0 ∷ 0 ∷ 0 ∷ []) → Less (key w.round c) (w.this ∷ 2 ∷ start ∷ 0 ∷ 0 ∷ [])
+      between : (c : Combination) → Below n c → Allowed (letters S.atoms) c → Less (key w.round c) (w.this ∷ 3 ∷ 0 ∷ 0 ∷ 0 ∷ []) → Less (key w.round c) (w.this ∷ 2 ∷ p ∷ 0 ∷ 0 ∷ [])
       between (nullary a) b l h = grind arith
       between (unary x a) b l h = grind arith
       between (binary x y a) b l h = let f = found_in w x b.0 in grind arith

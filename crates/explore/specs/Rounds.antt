@@ -1,11 +1,9 @@
 -- Things numbered by rounds: how far the search has come, and what it has found at the end.
-use Rattle.std.specs.Prelude.{◌≡◌, ℕ, ◌+◌, ◌*◌, ◌<◌, ◌≤◌, ◌⊎◌, List, [], ◌∷◌, length, None, Ok, Err, Result, ◌≢◌, slice_index_or, slice_set}
+use Rattle.std.specs.Prelude.{◌≡◌, ℕ, ◌+◌, ◌*◌, ◌<◌, ◌≤◌, List, [], ◌∷◌, length, ◌≢◌, slice_index_or}
 use Rattle.trees.specs.Automata.{Automaton, Complete}
 use Rattle.trees.specs.Rounds.{Combination, step, Allowed, Below, round_of, key, Less, Before, Numbered}
 use Rattle.explore.specs.Steps.{Steps, apply, letters}
 use Rattle.explore.specs.Firsts.{first_at}
-use Rattle.explore.specs.Numbers.{At, Finds}
-use Rattle.explore.specs.declared.full.Full.{Full}
 
 -- The first n things have been found, and every combination whose key comes before the position has been tried.
 pub record Underway {E : Type 0} (S : Steps E) (entry : ℕ → E) (first : ℕ → Combination) (n : ℕ) (round : ℕ → ℕ) (position : List ℕ) : Type 0 where
@@ -62,29 +60,7 @@ pub record Remembers (cells : List ℕ) (n : ℕ) (c : Combination) (after : Lis
   pub kept : (k : ℕ) → k < n → first_at after k ≡ first_at cells k
   pub here : first_at after n ≡ c
 
--- The combination c, which leads to e, is tried: e has a number already, or gets the next one and c is remembered for it;
--- refused where there is no place. Things ds, n of them, and cells before; es, m of them, and after.
-abbrev pub Tries : {E : Type 0} → List E → ℕ → List ℕ → Combination → E → Result (Unit {0}) Full → List E → ℕ → List ℕ → Type 0
-Tries ds n cells c e (Ok done) es m after = ((k : ℕ) × (k < n) × At ds k e × (es ≡ ds) × (m ≡ n) × (after ≡ cells)) ⊎ (Finds ds n e None × (n < length ds) × (es ≡ slice_set ds n e) × (m ≡ n + 1) × Remembers cells n c after)
-Tries ds n cells c e (Err full) es m after = Finds ds n e None × (n ≡ length ds)
-
--- things found stay as they are
-pub record Grows {E : Type 0} (ds : List E) (n : ℕ) (es : List E) (m : ℕ) : Type 0 where
-  pub long : length es ≡ length ds
-  pub more : n ≤ m
-  pub kept : (k : ℕ) (d : E) → k < n → slice_index_or es k d ≡ slice_index_or ds k d
-
--- from things ds, n of them, to the position in the round; or there are too many things
-abbrev pub Advances : {E : Type 0} → Steps E → List E → ℕ → (old start : ℕ) → Result (Unit {0}) Full → List E → ℕ → List ℕ → (children p q a : ℕ) → Type 0
-Advances S ds n old start (Ok done) es m cells children p q a = InRound S (entry_at S es) (first_at cells) m old start children p q a × Grows ds n es m
-Advances S ds n old start (Err full) es m cells children p q a = MoreThan (length ds) S
-
 -- there are cells for every place, and numbers that are no mark of an absent child
 pub record Room {E : Type 0} (es : List E) (cells : List ℕ) : Type 0 where
   pub long : 3 * length es ≤ length cells
   pub small : length es < 65536
-
--- all things are found; or there are more than places
-abbrev pub Explores : {E : Type 0} → Steps E → List E → Result (Unit {0}) Full → List E → ℕ → List ℕ → Type 0
-Explores S ds (Ok done) es n cells = Found S (entry_at S es) (first_at cells) n × (length es ≡ length ds)
-Explores S ds (Err full) es n cells = MoreThan (length ds) S

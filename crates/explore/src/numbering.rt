@@ -1,11 +1,65 @@
 // A container that numbers entries as they are found, each once.
-ghost use Rattle.std.specs.Prelude.{◌≡◌, ℕ, ◌+◌, ◌<◌, ◌≤◌, length};
+ghost use Rattle.std.specs.Prelude.{◌≡◌, ℕ, ◌+◌, ◌<◌, ◌≤◌, length, None};
 ghost use Rattle.explore.specs.Places.{place_of};
 ghost use Rattle.explore.specs.Numbers.{Alike, At, Finds, Guesses, Numbers};
 
 use crate::entry::Entry;
 
-// The first `len` entries of the slice have numbers; the hints say where an entry may stand.
+// Entries, and hints that say where an entry may stand.
+#[derive(Clone, Copy)]
+pub struct Lookup<'e, 'h, E> {
+    pub entries: &'e [E],
+    // Lent cells of 16 bits: one more than the place, 0 for no hint.
+    pub hints: &'h [u16],
+}
+
+impl<E: Entry> Lookup<'_, '_, E> {
+    // The place of the entry; the number of entries where it is not there.
+    pub fn place(&self, e: &E) -> usize
+        requires once { (i j : ℕ) → i < j → j < length self.now.entries.now → Alike self.now.entries.now i j → ⊥ }
+        ensures { result ≡ place_of E.eq self.now.entries.now e.now }
+    {
+        self.find(e).unwrap_or(self.entries.len())
+    }
+
+    // The place of the entry: where the hints say, or else by the plain search.
+    pub(crate) fn find(&self, e: &E) -> Option<usize>
+        ensures { Finds self.now.entries.now (length self.now.entries.now) e.now result }
+    {
+        // Not `or_else`: nothing is known of what its closure answers without a clause longer than this.
+        match self.guess(e) {
+            Some(k) => Some(k),
+            None => self.search(e),
+        }
+    }
+
+    // The place of the entry if a hint leads to it.
+    fn guess(&self, e: &E) -> Option<usize>
+        ensures { Guesses self.now.entries.now (length self.now.entries.now) e.now result }
+    {
+        let start = e.hint() % HINTS;
+        for i in 0..LOOKS {
+            let k = self.hints.get((start + i) % HINTS)?.checked_sub(1)? as usize;
+            if self.entries.get(k) == Some(e) {
+                return Some(k);
+            }
+        }
+        None
+    }
+
+    fn search(&self, e: &E) -> Option<usize>
+        ensures { Finds self.now.entries.now (length self.now.entries.now) e.now result }
+    {
+        self.entries.iter().position(|x| x == e)
+    }
+}
+
+// How many hints there are, and how many of them are looked at for one entry.
+const HINTS: usize = 8192;
+
+const LOOKS: usize = 8;
+
+// The first `len` entries of the lent slice have numbers.
 #[derive(Drop)]
 pub struct Numbering<'e, 'h, E> {
     entries: &'e mut [E],
@@ -41,14 +95,18 @@ impl<'e, 'h, E: Entry> Numbering<'e, 'h, E> {
         requires { k < self.now.len }
         ensures { At self.now.entries.now k result }
     {
-        read(self.entries, k)
+        self.entries[k]
     }
 
     // The number of the entry.
     pub fn find(&self, e: &E) -> Option<usize>
         ensures { Finds self.now.entries.now self.now.len e.now result }
     {
-        find_in(self.entries, self.hints, self.len, e)
+        let numbered = Lookup {
+            entries: &self.entries[..self.len],
+            hints: self.hints,
+        };
+        numbered.find(e)
     }
 
     // The number of the entry; where it has none, the next one, if there is a place.
@@ -56,111 +114,28 @@ impl<'e, 'h, E: Entry> Numbering<'e, 'h, E> {
         ensures numbers { Numbers self.old.entries.now self.old.len e result self.new.entries.now self.new.len }
         ensures lent { self.new.entries.ghost_name ≡ self.old.entries.ghost_name }
     {
-        let Numbering {
-            entries,
-            hints,
-            len,
-        } = self;
-        number_in(entries, hints, len, e)
-    }
-}
-
-// The number of the entry among the first `len`; where it has none, it is put behind them, if there is a place.
-fn number_in<E: Entry>(entries: &mut [E], hints: &mut [u16], len: &mut usize, e: E) -> Option<usize>
-    requires within { len.old ≤ length entries.old }
-    requires once { (i j : ℕ) → i < j → j < len.old → Alike entries.old i j → ⊥ }
-    ensures numbers { Numbers entries.old len.old e result entries.new len.new }
-    ensures within { len.new ≤ length entries.new }
-    ensures once { (i j : ℕ) → i < j → j < len.new → Alike entries.new i j → ⊥ }
-{
-    let n = *len;
-    if let Some(k) = find_in(entries, hints, n, &e) {
-        return Some(k);
-    }
-    if n >= entries.len() {
-        return None;
-    }
-    note(hints, &e, n);
-    entries[n] = e;
-    *len = n + 1;
-    Some(n)
-}
-
-pub fn read<E: Entry>(entries: &[E], k: usize) -> E
-    requires { k < length entries.now }
-    ensures { At entries.now k result }
-{
-    entries[k]
-}
-
-// The place of the entry in a list that has each once; the length of the list where it is not there.
-pub fn place<E: Entry>(entries: &[E], hints: &[u16], e: &E) -> usize
-    requires { (i j : ℕ) → i < j → j < length entries.now → Alike entries.now i j → ⊥ }
-    ensures { result ≡ place_of E.Entry.equal entries.now e.now }
-{
-    E::exact();
-    match find_in(entries, hints, entries.len(), e) {
-        Some(k) => k,
-        None => entries.len(),
-    }
-}
-
-// The number of the entry among the first n: where the hints say, or else by the plain search.
-fn find_in<E: Entry>(entries: &[E], hints: &[u16], n: usize, e: &E) -> Option<usize>
-    requires { n ≤ length entries.now }
-    ensures { Finds entries.now n e.now result }
-{
-    match guess(entries, hints, n, e) {
-        Some(k) => Some(k),
-        None => search(entries, n, e),
-    }
-}
-
-// How many hints there are, and how many of them are looked at for one entry.
-const HINTS: usize = 8192;
-
-const LOOKS: usize = 8;
-
-// The number of the entry if a hint leads to it.
-fn guess<E: Entry>(entries: &[E], hints: &[u16], n: usize, e: &E) -> Option<usize>
-    requires { n ≤ length entries.now }
-    ensures { Guesses entries.now n e.now result }
-{
-    let start = e.hint() % HINTS;
-    for i in 0..LOOKS {
-        let at = (start + i) % HINTS;
-        if at >= hints.len() || hints[at] == 0 {
+        if let Some(k) = self.find(&e) {
+            return Some(k);
+        }
+        let n = self.len;
+        if n >= self.entries.len() {
             return None;
         }
-        let k = hints[at] as usize - 1;
-        if k < n && entries[k].same(e) {
-            return Some(k);
-        }
+        self.entries[n] = e;
+        note(self.hints, &e, n);
+        self.len += 1;
+        Some(n)
     }
-    None
 }
 
-// The number of the entry among the first n, by the plain search.
-fn search<E: Entry>(entries: &[E], n: usize, e: &E) -> Option<usize>
-    requires { n ≤ length entries.now }
-    ensures { Finds entries.now n e.now result }
-{
-    for k in 0..n {
-        if entries[k].same(e) {
-            return Some(k);
-        }
-    }
-    None
-}
-
-// Has a hint lead to the entry with number k.
+// Has a hint lead to the entry with number k: the first free one of those looked at, or the last.
 fn note<E: Entry>(hints: &mut [u16], e: &E, k: usize) {
     let start = e.hint() % HINTS;
-    for i in 0..LOOKS {
-        let at = (start + i) % HINTS;
-        if at < hints.len() && (hints[at] == 0 || i + 1 == LOOKS) {
-            hints[at] = (k % 0xFFFF) as u16 + 1;
-            return;
-        }
+    let last = start + LOOKS - 1;
+    let at = (start..last)
+        .find(|at| hints.get(*at % HINTS) == Some(&0))
+        .unwrap_or(last);
+    if let Some(hint) = hints.get_mut(at % HINTS) {
+        *hint = (k % 0xFFFF) as u16 + 1;
     }
 }

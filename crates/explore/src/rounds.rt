@@ -1,13 +1,22 @@
 // The rounds in which things are found.
-ghost use Rattle.std.specs.Prelude.{◌≡◌, ℕ, ◌+◌, ◌*◌, ◌<◌, ◌≤◌, true, ◌⊎◌, length};
-ghost use Rattle.explore.specs.Firsts.{first_at};
-ghost use Rattle.explore.specs.Rounds.{Advances, Explores, InRound, Room, entry_at};
+// Not a struct of `found` and `firsts`: what a struct in a struct was lent is not followed to the end of the loan.
+ghost use Rattle.std.specs.Prelude.{◌≡◌, ℕ, ◌+◌, ◌<◌};
+ghost use Rattle.explore.specs.Rounds.{Room, entry_at};
+ghost use Rattle.explore.specs.Steps.{apply};
+ghost use Rattle.explore.specs.Search.{Explores, GoesOn, Stands, Turn, count, left, over, right};
 
 use crate::entry::Entry;
 use crate::full::Full;
 use crate::numbering::Numbering;
 use crate::stepping::Stepping;
-use crate::trying::{ABSENT, Tried, try_one};
+use crate::trying::{Children, try_one};
+
+// Things below `old` were found before the last round, and those below `start` in it.
+#[derive(Clone, Copy)]
+pub(crate) struct Round {
+    pub(crate) old: usize,
+    pub(crate) start: usize,
+}
 
 // Round after round, until one finds nothing new.
 pub(crate) fn all_rounds<E: Entry, S: Stepping<E>>(
@@ -15,129 +24,42 @@ pub(crate) fn all_rounds<E: Entry, S: Stepping<E>>(
     found: &mut Numbering<'_, '_, E>,
     firsts: &mut [u16],
 ) -> Result<(), Full>
-    requires sound { S.Stepping.sound steps.now }
     requires room { Room found.old.entries.now firsts.old }
     requires empty { found.old.len ≡ 0 }
-    ensures explores { Explores (S.Stepping.steps steps.now) found.old.entries.now result found.new.entries.now found.new.len firsts.new }
-    ensures lent { found.new.entries.ghost_name ≡ found.old.entries.ghost_name }
+    ensures { Explores (S.Stepping.steps steps.now) found.old result found.new firsts.new }
 {
-    leaves(steps, found, firsts)?;
-    let mut start = 0;
-    while found.len() > start {
-        let old = start;
-        start = found.len();
-        round(steps, found, firsts, old, start)?;
-    }
-    Ok(())
-}
-
-// The first round: childless nodes by their labels.
-fn leaves<E: Entry, S: Stepping<E>>(
-    steps: &S,
-    found: &mut Numbering<'_, '_, E>,
-    firsts: &mut [u16],
-) -> Result<(), Full>
-    requires sound { S.Stepping.sound steps.now }
-    requires room { Room found.old.entries.now firsts.old }
-    requires empty { found.old.len ≡ 0 }
-    ensures advances { Advances (S.Stepping.steps steps.now) found.old.entries.now found.old.len 0 0 result found.new.entries.now found.new.len firsts.new 3 0 0 0 }
-    ensures lent { found.new.entries.ghost_name ≡ found.old.entries.ghost_name }
-{
-    steps.fit();
-    for a in 0..steps.atoms() {
-        let tried = Tried {
-            left: ABSENT,
-            right: ABSENT,
-            label: a as u16,
+    let mut round = Round { old: 0, start: 0 };
+    labels(steps, found, firsts, round, Children::None, |a| {
+        steps.none(a)
+    })?;
+    while found.len() > round.start {
+        round = Round {
+            old: round.start,
+            start: found.len(),
         };
-        try_one(found, firsts, tried, steps.none(a))?;
+        singles(steps, found, firsts, round)?;
+        doubles(steps, found, firsts, round)?;
     }
     Ok(())
 }
 
-// Nodes with one child, the thing with number p, by their labels.
-fn single_from<E: Entry, S: Stepping<E>>(
+// Nodes with these children, by their labels.
+fn labels<E: Entry, S: Stepping<E>, F: Fn(usize) -> E>(
     steps: &S,
     found: &mut Numbering<'_, '_, E>,
     firsts: &mut [u16],
-    p: usize,
-    old: usize,
-    start: usize,
+    round: Round,
+    children: Children,
+    thing: F,
 ) -> Result<(), Full>
-    requires sound { S.Stepping.sound steps.now }
-    requires room { Room found.old.entries.now firsts.old }
-    requires turn { (old ≤ p) × (p < start) }
-    requires at { InRound (S.Stepping.steps steps.now) (entry_at (S.Stepping.steps steps.now) found.old.entries.now) (first_at firsts.old) found.old.len old start 1 p 0 0 }
-    ensures advances { Advances (S.Stepping.steps steps.now) found.old.entries.now found.old.len old start result found.new.entries.now found.new.len firsts.new 1 (p + 1) 0 0 }
-    ensures lent { found.new.entries.ghost_name ≡ found.old.entries.ghost_name }
+    requires may { (a : ℕ) → a < (S.Stepping.steps steps.now).atoms → F.pre thing a }
+    requires leads { (a : ℕ) (e : E) → a < (S.Stepping.steps steps.now).atoms → F.post thing a e → e ≡ apply (S.Stepping.steps steps.now) (entry_at (S.Stepping.steps steps.now) found.old.entries.now) (over children a) }
+    requires turn { Turn round children }
+    requires stands { Stands (S.Stepping.steps steps.now) found.old firsts.old round (count children) (left children) (right children) 0 }
+    ensures { GoesOn (S.Stepping.steps steps.now) found.old round result found.new firsts.new (count children) (left children) (right children) (S.Stepping.steps steps.now).atoms }
 {
-    steps.fit();
-    let below = found.get(p);
     for a in 0..steps.atoms() {
-        let tried = Tried {
-            left: p as u16,
-            right: ABSENT,
-            label: a as u16,
-        };
-        try_one(found, firsts, tried, steps.single(&below, a))?;
-    }
-    Ok(())
-}
-
-// Nodes with two children, the things with numbers p and q, by their labels.
-fn double_from<E: Entry, S: Stepping<E>>(
-    steps: &S,
-    row: &S::Row,
-    found: &mut Numbering<'_, '_, E>,
-    firsts: &mut [u16],
-    p: usize,
-    q: usize,
-    old: usize,
-    start: usize,
-) -> Result<(), Full>
-    requires sound { S.Stepping.sound steps.now }
-    requires room { Room found.old.entries.now firsts.old }
-    requires turn { (p < start) × (q < start) × ((old ≤ p) ⊎ (old ≤ q)) }
-    requires row { S.Stepping.prepared steps.now (entry_at (S.Stepping.steps steps.now) found.old.entries.now p) row.now }
-    requires at { InRound (S.Stepping.steps steps.now) (entry_at (S.Stepping.steps steps.now) found.old.entries.now) (first_at firsts.old) found.old.len old start 2 p q 0 }
-    ensures advances { Advances (S.Stepping.steps steps.now) found.old.entries.now found.old.len old start result found.new.entries.now found.new.len firsts.new 2 p (q + 1) 0 }
-    ensures lent { found.new.entries.ghost_name ≡ found.old.entries.ghost_name }
-{
-    steps.fit();
-    let left = found.get(p);
-    let right = found.get(q);
-    for a in 0..steps.atoms() {
-        let tried = Tried {
-            left: p as u16,
-            right: q as u16,
-            label: a as u16,
-        };
-        try_one(found, firsts, tried, steps.double(&left, row, &right, a))?;
-    }
-    Ok(())
-}
-
-// Nodes with two children, of which the left one is the thing with number p. One of the two was found in the last round.
-fn doubles_from<E: Entry, S: Stepping<E>>(
-    steps: &S,
-    found: &mut Numbering<'_, '_, E>,
-    firsts: &mut [u16],
-    p: usize,
-    old: usize,
-    start: usize,
-) -> Result<(), Full>
-    requires sound { S.Stepping.sound steps.now }
-    requires room { Room found.old.entries.now firsts.old }
-    requires turn { p < start }
-    requires at { InRound (S.Stepping.steps steps.now) (entry_at (S.Stepping.steps steps.now) found.old.entries.now) (first_at firsts.old) found.old.len old start 2 p 0 0 }
-    ensures advances { Advances (S.Stepping.steps steps.now) found.old.entries.now found.old.len old start result found.new.entries.now found.new.len firsts.new 2 (p + 1) 0 0 }
-    ensures lent { found.new.entries.ghost_name ≡ found.old.entries.ghost_name }
-{
-    steps.fit();
-    let row = steps.row(&found.get(p));
-    let from = if p < old { old } else { 0 };
-    for q in from..start {
-        double_from(steps, &row, found, firsts, p, q, old, start)?;
+        try_one(found, firsts, children, a, thing(a))?;
     }
     Ok(())
 }
@@ -147,17 +69,16 @@ fn singles<E: Entry, S: Stepping<E>>(
     steps: &S,
     found: &mut Numbering<'_, '_, E>,
     firsts: &mut [u16],
-    old: usize,
-    start: usize,
+    round: Round,
 ) -> Result<(), Full>
-    requires sound { S.Stepping.sound steps.now }
-    requires room { Room found.old.entries.now firsts.old }
-    requires at { InRound (S.Stepping.steps steps.now) (entry_at (S.Stepping.steps steps.now) found.old.entries.now) (first_at firsts.old) found.old.len old start 1 old 0 0 }
-    ensures advances { Advances (S.Stepping.steps steps.now) found.old.entries.now found.old.len old start result found.new.entries.now found.new.len firsts.new 2 0 0 0 }
-    ensures lent { found.new.entries.ghost_name ≡ found.old.entries.ghost_name }
+    requires stands { Stands (S.Stepping.steps steps.now) found.old firsts.old round 1 round.old 0 0 }
+    ensures { GoesOn (S.Stepping.steps steps.now) found.old round result found.new firsts.new 2 0 0 0 }
 {
-    for p in old..start {
-        single_from(steps, found, firsts, p, old, start)?;
+    for p in round.old..round.start {
+        let child = found.get(p);
+        labels(steps, found, firsts, round, Children::One(p), |a| {
+            steps.single(&child, a)
+        })?;
     }
     Ok(())
 }
@@ -167,35 +88,37 @@ fn doubles<E: Entry, S: Stepping<E>>(
     steps: &S,
     found: &mut Numbering<'_, '_, E>,
     firsts: &mut [u16],
-    old: usize,
-    start: usize,
+    round: Round,
 ) -> Result<(), Full>
-    requires sound { S.Stepping.sound steps.now }
-    requires room { Room found.old.entries.now firsts.old }
-    requires at { InRound (S.Stepping.steps steps.now) (entry_at (S.Stepping.steps steps.now) found.old.entries.now) (first_at firsts.old) found.old.len old start 2 0 0 0 }
-    ensures advances { Advances (S.Stepping.steps steps.now) found.old.entries.now found.old.len old start result found.new.entries.now found.new.len firsts.new 3 0 0 0 }
-    ensures lent { found.new.entries.ghost_name ≡ found.old.entries.ghost_name }
+    requires stands { Stands (S.Stepping.steps steps.now) found.old firsts.old round 2 0 0 0 }
+    ensures { GoesOn (S.Stepping.steps steps.now) found.old round result found.new firsts.new 3 0 0 0 }
 {
-    for p in 0..start {
-        doubles_from(steps, found, firsts, p, old, start)?;
+    for p in 0..round.start {
+        doubles_from(steps, found, firsts, round, p)?;
     }
     Ok(())
 }
 
-// One round after the first. Things below `old` were found before the last round, and those below `start` in it.
-fn round<E: Entry, S: Stepping<E>>(
+// Nodes with two children, of which the left one is the thing with number p.
+fn doubles_from<E: Entry, S: Stepping<E>>(
     steps: &S,
     found: &mut Numbering<'_, '_, E>,
     firsts: &mut [u16],
-    old: usize,
-    start: usize,
+    round: Round,
+    p: usize,
 ) -> Result<(), Full>
-    requires sound { S.Stepping.sound steps.now }
-    requires room { Room found.old.entries.now firsts.old }
-    requires at { InRound (S.Stepping.steps steps.now) (entry_at (S.Stepping.steps steps.now) found.old.entries.now) (first_at firsts.old) found.old.len old start 1 old 0 0 }
-    ensures advances { Advances (S.Stepping.steps steps.now) found.old.entries.now found.old.len old start result found.new.entries.now found.new.len firsts.new 3 0 0 0 }
-    ensures lent { found.new.entries.ghost_name ≡ found.old.entries.ghost_name }
+    requires turn { p < round.start }
+    requires stands { Stands (S.Stepping.steps steps.now) found.old firsts.old round 2 p 0 0 }
+    ensures { GoesOn (S.Stepping.steps steps.now) found.old round result found.new firsts.new 2 (p + 1) 0 0 }
 {
-    singles(steps, found, firsts, old, start)?;
-    doubles(steps, found, firsts, old, start)
+    let left = found.get(p);
+    let row = steps.row(&left);
+    let from = if p < round.old { round.old } else { 0 };
+    for q in from..round.start {
+        let right = found.get(q);
+        labels(steps, found, firsts, round, Children::Two(p, q), |a| {
+            steps.double(&left, &row, &right, a)
+        })?;
+    }
+    Ok(())
 }

@@ -1,7 +1,8 @@
 // One combination tried.
 ghost use Rattle.std.specs.Prelude.{◌≡◌, ℕ, ◌+◌, ◌*◌, ◌<◌, ◌≤◌, length};
-ghost use Rattle.explore.specs.Firsts.{combination};
-ghost use Rattle.explore.specs.Rounds.{Tries, Remembers};
+ghost use Rattle.trees.specs.Rounds.{Below};
+ghost use Rattle.explore.specs.Rounds.{Remembers, Room};
+ghost use Rattle.explore.specs.Search.{Tries, over};
 
 use crate::entry::Entry;
 use crate::full::Full;
@@ -10,42 +11,48 @@ use crate::numbering::Numbering;
 // Stands for an absent child.
 pub const ABSENT: u16 = 0xFFFF;
 
-// A label over the numbers of no, one or two things.
+// The children of a node, by the numbers of their things.
 #[derive(Clone, Copy)]
-pub struct Tried {
-    pub left: u16,
-    pub right: u16,
-    pub label: u16,
+pub(crate) enum Children {
+    None,
+    One(usize),
+    Two(usize, usize),
 }
 
 // Gives the thing that the combination leads to its number, and remembers the combination if the thing is new.
 pub(crate) fn try_one<E: Entry>(
     found: &mut Numbering<'_, '_, E>,
     firsts: &mut [u16],
-    tried: Tried,
+    children: Children,
+    label: usize,
     e: E,
 ) -> Result<(), Full>
-    requires { 3 * length found.old.entries.now ≤ length firsts.old }
-    ensures tries { Tries found.old.entries.now found.old.len firsts.old (combination tried.left tried.right tried.label) e result found.new.entries.now found.new.len firsts.new }
-    ensures lent { found.new.entries.ghost_name ≡ found.old.entries.ghost_name }
+    requires room { Room found.old.entries.now firsts.old }
+    requires below { Below found.old.len (over children label) }
+    requires small { label < 65536 }
+    ensures { Tries found.old firsts.old (over children label) e result found.new firsts.new }
 {
     let n = found.len();
-    let Some(k) = found.number(e) else {
-        return Err(Full);
-    };
-    if k < n {
-        return Ok(());
+    if found.number(e).ok_or(Full)? == n {
+        remember(firsts, n, children, label);
     }
-    remember(firsts, n, tried);
     Ok(())
 }
 
 // Keeps the combination for number k.
-fn remember(firsts: &mut [u16], k: usize, tried: Tried)
-    requires { 3 * k + 3 ≤ length firsts.old }
-    ensures { Remembers firsts.old k (combination tried.left tried.right tried.label) firsts.new }
+fn remember(firsts: &mut [u16], k: usize, children: Children, label: usize)
+    requires room { 3 * k + 3 ≤ length firsts.old }
+    requires few { k < 65536 }
+    requires below { Below k (over children label) }
+    requires small { label < 65536 }
+    ensures { Remembers firsts.old k (over children label) firsts.new }
 {
-    firsts[3 * k] = tried.left;
-    firsts[3 * k + 1] = tried.right;
-    firsts[3 * k + 2] = tried.label;
+    let (left, right) = match children {
+        Children::None => (ABSENT, ABSENT),
+        Children::One(p) => (p as u16, ABSENT),
+        Children::Two(p, q) => (p as u16, q as u16),
+    };
+    firsts[3 * k] = left;
+    firsts[3 * k + 1] = right;
+    firsts[3 * k + 2] = label as u16;
 }

@@ -25,7 +25,6 @@ pub fn order_classes<M: TreeAutomaton>(
     order: &mut [Class],
     firsts: &mut [u16],
 ) -> Result<Ordered, TooManyClasses>
-    requires sound { M.TreeAutomaton.sound m.now }
     requires classes_long { length classes.old ≡ (M.TreeAutomaton.meaning m.now).size }
     requires next_long { length next.old ≡ (M.TreeAutomaton.meaning m.now).size }
     requires reps_long { length reps.old ≡ 32 }
@@ -33,7 +32,6 @@ pub fn order_classes<M: TreeAutomaton>(
     requires firsts_long { 96 ≤ length firsts.old }
     ensures { Orders (M.TreeAutomaton.letters m.now) (M.TreeAutomaton.meaning m.now) result classes.new reps.new order.new firsts.new }
 {
-    m.fit();
     let count = minimize(m, classes, next, reps)?;
     let steps = ClassSteps {
         machine: m,
@@ -41,10 +39,6 @@ pub fn order_classes<M: TreeAutomaton>(
         reps,
         count,
     };
-    steps.fit();
-    let mut hints = [0u16; 0];
-    match explore(&steps, order, &mut hints, firsts) {
-        Ok(size) => Ok(Ordered { count, size }),
-        Err(_) => unreachable(),
-    }
+    let size = explore(&steps, order, &mut [], firsts).unwrap();
+    Ok(Ordered { count, size })
 }

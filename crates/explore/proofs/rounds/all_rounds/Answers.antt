@@ -1,26 +1,24 @@
-use Rattle.std.proofs.Common.{◌≡◌, length, sym, ◌∙◌, subst, arith}
+use Rattle.std.proofs.Common.{sym, subst, arith}
 use Rattle.explore.specs.Firsts.{first_at}
 use Rattle.explore.specs.Rounds.{InRound, entry_at}
 use Rattle.explore.proofs.Finding.{all_found}
-use Rattle.explore.proofs.Positions.{next_round}
+use Rattle.explore.proofs.Positions.{begin, next_round}
 use Rattle.explore.proofs.rounds.all_rounds.Goals as goal
 
-pub round-requires : goal.round-requires
-round-requires g c =
+pub labels-requires-clause-stands : goal.labels-requires-clause-stands
+labels-requires-clause-stands g c =
     let S = g.S.Stepping.steps c.args.steps.now in
-    let inv = c.loop-start.invariant in
-    let long : length c.loop-start.found.entries.now ≡ length c.args.found.now.entries.now = inv.1 ∙ c.in_ok-leaves.ensures.advances.1.long in
-    record {
-      sound = c.requires.sound;
-      room = record { long = omega (arith, c.requires.room.long, c.loop-start.auto.firsts); small = omega (arith, c.requires.room.small) };
-      at = subst (λ s. InRound S (entry_at S c.loop-start.found.entries.now) (first_at c.loop-start.firsts) c.loop-start.found.len c.loop-start.start s 1 c.loop-start.start 0 0) (sym c.len-start.ensures) (next_round inv.0.1);
-    }
+    record { room = c.requires.room; at = rw c.requires.empty (begin S (entry_at S c.args.found.now.entries.now) (first_at c.args.firsts.now)) }
+
+pub singles-requires : goal.singles-requires
+singles-requires g c =
+    let S = g.S.Stepping.steps c.args.steps.now in
+    let s = c.loop-round.found in
+    let from = c.loop-round.round.start in
+    let stands = c.loop-round.invariant.0 in
+    record { stands = record { room = stands.room; at = subst (λ n. InRound S (entry_at S s.entries.now) (first_at c.loop-round.firsts) s.len from n 1 from 0 0) (sym c.len-in-loop-round.ensures) (next_round stands.at) } }
 
 pub returns : goal.returns
 returns g c =
-    let inv = c.loop-start.invariant in
-    let first = c.in_ok-leaves.ensures in
-    record {
-      explores = (all_found inv.0.1 (omega (arith, c.loop-start-test.false, c.len.ensures, inv.0.1.ordered.1)), inv.1 ∙ first.advances.1.long);
-      lent = inv.2 ∙ first.lent;
-    }
+    let at = c.loop-round.invariant.0.at in
+    (all_found at (omega (arith, c.loop-round-test.false, c.len.ensures, at.ordered.1)), c.loop-round.invariant.1)

@@ -1,15 +1,20 @@
-use Rattle.std.proofs.Common.{◌≡◌, subst, arith}
-use Rattle.explore.specs.Firsts.{first_at}
-use Rattle.explore.specs.Rounds.{InRound, entry_at}
-use Rattle.explore.proofs.Positions.{to_doubles}
+use Rattle.std.proofs.Common.{◌≡◌, true, rules, arith}
+use Rattle.explore.proofs.Advancing.{fine_at, grows_more}
+use Rattle.explore.proofs.Positions.{next_single, to_doubles}
 use Rattle.explore.proofs.rounds.singles.Goals as goal
+
+pub labels-requires-clause-may : goal.labels-requires-clause-may
+labels-requires-clause-may g c =
+    let stands = c.loop-p.invariant.0 in
+    let fine : (g.S.Stepping.steps c.args.steps.now).fine c.get-child.result ≡ true = fine_at (g.met.S.Stepping.fit c.args.steps.now) stands c.loop-p.p (omega (arith, c.loop-p-test.true, stands.at.ordered.1)) c.get-child.result c.get-child.ensures in
+    search rules
+
+pub loop-p-preserved : goal.loop-p-preserved
+loop-p-preserved g c =
+    let to = c.in_ok-labels.ensures in
+    (record { room = to.0.room; at = next_single c.loop-p.p to.0.at }, grows_more c.loop-p.invariant.1 to.1)
 
 pub returns : goal.returns
 returns g c =
-    let S = g.S.Stepping.steps c.args.steps.now in
     let inv = c.loop-p.invariant in
-    let end : c.loop-p.p ≡ c.args.start = omega (arith, c.loop-p.auto.p-end c.requires.at.ordered.0, c.loop-p-test.false) in
-    record {
-      advances = (to_doubles (subst (λ p. InRound S (entry_at S c.loop-p.found.entries.now) (first_at c.loop-p.firsts) c.loop-p.found.len c.args.old c.args.start 1 p 0 0) end inv.0), inv.1);
-      lent = inv.2;
-    }
+    (record { room = inv.0.room; at = to_doubles c.loop-p.p (omega (arith, c.loop-p.auto.p-end c.requires.stands.at.ordered.0, c.loop-p-test.false)) inv.0.at }, inv.1)

@@ -1,10 +1,5 @@
-use Rattle.std.proofs.Common.{◌≡◌}
-use Rattle.explore.specs.Firsts.{first_at}
-use Rattle.explore.specs.Rounds.{InRound, Grows, entry_at}
+use Rattle.explore.specs.Search.{Grows, Stands}
 use Rattle.explore.proofs.rounds.singles.Given as goal
 
 abbrev pub invariant-loop-p : goal.invariant-loop-p
-invariant-loop-p g l =
-    InRound (g.S.Stepping.steps l.steps) (entry_at (g.S.Stepping.steps l.steps) l.found.entries.now) (first_at l.firsts) l.found.len l.old l.start 1 l.p 0 0
-    × Grows l.initial.found.entries.now l.initial.found.len l.found.entries.now l.found.len
-    × (l.found.entries.ghost_name ≡ l.initial.found.entries.ghost_name)
+invariant-loop-p g l = Stands (g.S.Stepping.steps l.steps) l.found l.firsts l.round 1 l.p 0 0 × Grows l.fn.found l.found

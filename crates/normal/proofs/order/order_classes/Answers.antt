@@ -1,14 +1,17 @@
+use Rattle.std.proofs.Common.{take, subst}
 use Rattle.explore.specs.Firsts.{first_at}
-use Rattle.std.proofs.Common.{length, take, arith}
-use Rattle.normal.proofs.Fewness.{never_full, class_exact}
+use Rattle.explore.specs.Listing.{Lists}
+use Rattle.normal.specs.Classes.{class_steps}
+use Rattle.normal.specs.Orders.{same_class}
+use Rattle.normal.proofs.Fewness.{all_listed, class_exact}
 use Rattle.normal.proofs.Quotients.{quotient_normal}
 use Rattle.normal.proofs.order.order_classes.Goals as goal
 
-pub unreachable-requires : goal.unreachable-requires
-unreachable-requires g c =
+pub unwrap-size-requires : goal.unwrap-size-requires
+unwrap-size-requires g c =
     let m = c.args.m.now in
     let to = c.minimize.new in
-    never_full (g.M.TreeAutomaton.letters m) (g.M.TreeAutomaton.meaning m) to.classes to.reps c.in_ok-count.count (length c.args.order.now) c.fit-2.ensures (omega (arith, c.in_ok-count.ensures.partition.few, c.requires.order_long)) c.in-Err.ensures
+    all_listed (g.M.TreeAutomaton.letters m) (g.M.TreeAutomaton.meaning m) to.classes to.reps c.in_ok-count.count (g.met.M.TreeAutomaton.fit m) c.in_ok-count.ensures.partition c.args.order.now c.explore.new.entries c.explore.new.firsts c.explore.result c.requires.order_long c.explore.ensures
 
 pub returns : goal.returns
 returns g c =
@@ -17,10 +20,12 @@ returns g c =
     let A = g.M.TreeAutomaton.meaning m in
     let to = c.minimize.new in
     let least = c.in_ok-count.ensures in
-    let listed = c.in-Ok.ensures.1 in
+    let es = c.explore.new.entries in
+    let cells = c.explore.new.firsts in
+    let lists = subst (λ r. Lists (class_steps n A to.classes to.reps c.in_ok-count.count) same_class c.args.order.now r es cells) c.unwrap-size.ensures c.explore.ensures in
     record {
       classed = least;
-      few = c.in-Ok.ensures.0;
-      listed = listed;
-      normal = λ L for reachable. quotient_normal n A to.classes to.reps c.in_ok-count.count least c.fit.ensures.complete class_exact (take c.in-Ok.size c.explore.new.entries) (first_at c.explore.new.firsts) listed reachable L for;
+      few = lists.0;
+      listed = lists.1;
+      normal = λ L for reachable. quotient_normal n A to.classes to.reps c.in_ok-count.count least (g.met.M.TreeAutomaton.fit m).complete class_exact (take c.unwrap-size.result es) (first_at cells) lists.1 reachable L for;
     }
