@@ -7,8 +7,13 @@ use Rattle.labels.specs.Adding.{Joins}
 use Rattle.labels.specs.Laws.{SetsBelow}
 use Rattle.labels.specs.Meaning.{Meaning, Fits, IsLeast, Fresh}
 use Rattle.labels.specs.Sets.{has, Between}
-use Rattle.labels.specs.Tables.{empty, set_at, table_meaning, FirstFit}
+use Rattle.labels.specs.Tables.{empty, set_at, table_meaning}
 use Rattle.labels.specs.declared.set.GuardSet.{GuardSet}
+
+-- the first index at which the set has all of ins and none of outs, or none exactly if there is none
+abbrev pub FirstFit : ℕ → ℕ → List GuardSet → Option ℕ → Type 0
+FirstFit ins outs sets None = (k : ℕ) → k < length sets → Between ins outs (set_at sets k) → ⊥
+FirstFit ins outs sets (Some i) = (i < length sets) × Between ins outs (set_at sets i) × ((k : ℕ) → k < i → Between ins outs (set_at sets k) → ⊥)
 
 past_empty : (sets : List GuardSet) (x g : ℕ) → length sets ≤ x → has (set_at sets x) g ≡ false
 past_empty sets x g past = ap (λ (s : GuardSet). has s.0 g) (get_or_past sets x empty past) ∙ has_none g

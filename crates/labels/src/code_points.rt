@@ -38,6 +38,7 @@ impl CodePoints {
     }
 
     // The guards with a range that has x.
+    #[tactic(auto, using(crate::proofs::Covering::covered_more))]
     fn guards_at(&self, x: u32) -> GuardSet
         ensures { (g : ℕ) → has result.0 g ≡ covered self.now.ranges.items g x }
     {
@@ -88,6 +89,7 @@ impl LabelKind for CodePoints {
         best.map(u64::from)
     }
 
+    #[tactic(auto, using(crate::proofs::Covering::covered_push))]
     fn add(&mut self, guard: u32, value: &Range) -> Result<(), AddFault> {
         if guard > 31 {
             return Err(AddFault::Guard);

@@ -31,6 +31,7 @@ impl<S: AsSlice<GuardSet>> GuardTable<S> {
     }
 
     // The first label with every guard of `yes` and none of `no`.
+    #[tactic(auto, using(crate::proofs::Tables::table_least))]
     pub fn least(&self, yes: GuardSet, no: GuardSet) -> Option<u64>
         ensures { IsLeast (table_meaning (S.items self.now.sets) self.now.guards) yes.0 no.0 result }
     {
