@@ -9,7 +9,7 @@ use crate::kind::{AddFault, LabelKind, NarrowKind};
 use crate::set::GuardSet;
 use crate::table::GuardTable;
 
-#[derive(Clone, Copy)]
+#[derive(Clone, Copy, Debug, PartialEq, Eq)]
 pub struct Tag(pub u32);
 
 #[derive(Drop)]
