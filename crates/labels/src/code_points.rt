@@ -7,8 +7,7 @@ ghost use Rattle.labels.specs.Ranges.{code_label, code_meaning, covered, given_a
 ghost use Rattle.labels.specs.Sets.{has};
 
 use crate::kind::{AddFault, LabelKind, NarrowKind};
-use crate::range::{Given, Range};
-use crate::ranges::{is_surrogate, skip_surrogates};
+use crate::range::{Given, Range, is_surrogate, skip_surrogates};
 use crate::set::GuardSet;
 use std::alloc::{AllocError, Global};
 

@@ -23,8 +23,7 @@ impl Tags {
     pub fn new() -> Tags
         ensures { Fresh (table_meaning result.table.sets result.table.guards) (λ x. nat_lt x 64) }
     {
-        let none = GuardSet(0);
-        let sets = [none; 64];
+        let sets = [GuardSet(0); 64];
         Tags {
             table: GuardTable { sets, guards: 0 },
         }
