@@ -46,6 +46,10 @@ has_past s n g small up =
     let past : s < 2 ^ g = omega arith in
     ap (λ k. eqb (k % 2) 1) (div-eq_of_lt past)
 
+-- no `u32` has a guard above 31
+pub has_above : (s g : ℕ) → s < 2 ^ 32 → 32 ≤ g → has s g ≡ false
+has_above s g small up = has_past s 32 g small up
+
 -- the one bit of 2 ^ k
 pub has_one : (k g : ℕ) → has (2 ^ k) g ≡ eqb g k
 unfolding has

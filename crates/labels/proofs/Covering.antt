@@ -1,9 +1,8 @@
 -- What ranges cover, and where that may change.
-use Rattle.std.proofs.Common.{◌≡◌, ℕ, suc, ◌+◌, ◌<◌, ◌≤◌, Bool, true, false, not, ◌&&◌, ◌||◌, eqb, ltb, leb, ◌⊎◌, List, [], ◌∷◌, ◌++◌, length, take, sym, refl, ap, ◌∙◌, subst, inl, inr, ⊎_elim, arith}
+use Rattle.std.proofs.Common.{◌≡◌, ℕ, suc, ◌+◌, ◌<◌, ◌≤◌, Bool, true, false, not, ◌&&◌, ◌||◌, eqb, leb, ◌⊎◌, List, [], ◌∷◌, ◌++◌, length, take, sym, refl, ap, ◌∙◌, subst, inl, inr, ⊎_elim, arith}
 use Rattle.std.proofs.lemmas.List.{take_more}
-use Rattle.std.proofs.lemmas.Bool.{both_ways, cases_lt, cases_Bool, lt-ltb, leb-true, le-leb, lt-leb, and_parts, and_from, and_left, and_right, not-true, not_from_false, cond-true, cond-false}
+use Rattle.std.proofs.lemmas.Bool.{both_ways, cases_lt, cases_Bool, leb-true, le-leb, lt-leb, and_parts, and_from, and_left, and_right, not-true, not_from_false, cond-true, cond-false}
 use Rattle.labels.specs.Ranges.{surrogate, code_label, in_range, covered, given_at, nothing, past_surrogates}
-use Rattle.labels.specs.Sets.{has}
 use Rattle.labels.specs.declared.range.Given.{Given}
 
 or_assoc : (a b c : Bool) → ((a || b) || c) ≡ (a || (b || c))
@@ -49,16 +48,6 @@ edge_all (r ∷ rs) P none begins ends e =
     ⊎_elim
     (⊎_elim (λ is. subst P (sym is) (begins 0 (omega arith))) (λ is. subst P (sym is) (ends 0 (omega arith))))
     (edge_all rs P none (λ k h. begins (suc k) (omega arith)) (λ k h. ends (suc k) (omega arith)) e)
-
-module _ (rs : List Given) (i x s : ℕ) (under : i < length rs) (so_far : (g : ℕ) → has s g ≡ covered (take i rs) g x) where
-  pub covered_passed : in_range (given_at rs i).range x ≡ false → (g : ℕ) → has s g ≡ covered (take (i + 1) rs) g x
-  covered_passed off g =
-      so_far g ∙ sym (covered_more rs i g x under ∙ ap (λ b. covered (take i rs) g x || b) (and_right (eqb g (given_at rs i).guard) (in_range (given_at rs i).range x) off) ∙ or_swap (covered (take i rs) g x) false)
-
-  pub covered_put : (t : ℕ) → in_range (given_at rs i).range x ≡ true → (given_at rs i).guard < 32 → ((g : ℕ) → has t g ≡ (has s g || (eqb g (given_at rs i).guard && ltb (given_at rs i).guard 32))) → (g : ℕ) → has t g ≡ covered (take (i + 1) rs) g x
-  covered_put t on small put g =
-      put g ∙ ap (λ b. b || (eqb g (given_at rs i).guard && ltb (given_at rs i).guard 32)) (so_far g)
-      ∙ ap (λ b. covered (take i rs) g x || (eqb g (given_at rs i).guard && b)) (lt-ltb (given_at rs i).guard 32 small ∙ sym on) ∙ sym (covered_more rs i g x under)
 
 -- ---- from an edge up to each label nothing changes
 

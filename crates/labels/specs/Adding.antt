@@ -1,5 +1,5 @@
 -- What adding a value to a guard does, and when it is refused.
-use Rattle.std.specs.Prelude.{◌≡◌, ℕ, ◌+◌, ◌<◌, ◌≤◌, max, Bool, true, false, ◌&&◌, ◌||◌, List, [], ◌∷◌, Ok, Err, Result, ◌==◌}
+use Rattle.std.specs.Prelude.{◌≡◌, ℕ, ◌+◌, ◌<◌, ◌≤◌, max, Bool, true, false, ◌&&◌, ◌||◌, List, [], ◌∷◌, Ok, Err, Result, ◌==◌, codes}
 use Rattle.labels.specs.Meaning.{Meaning}
 use Rattle.labels.specs.declared.kind.AddFault.{AddFault}
 use Rattle.labels.specs.declared.kind.AddFault.TheVariants.{Guard, Value, Full}
@@ -44,3 +44,9 @@ abbrev pub number_of : AddFault → ℕ
 number_of Guard = 10
 number_of Value = 11
 number_of Full = 12
+
+-- the text of each refusal
+abbrev pub fault_text : AddFault → List ℕ
+fault_text Guard = codes "the guard's number is above 31"
+fault_text Value = codes "the value is not of the kind's form"
+fault_text Full = codes "there is no place for one more value"

@@ -1,5 +1,5 @@
 -- Code points and the ranges that guards are given by.
-use Rattle.std.specs.Prelude.{ℕ, ◌<◌, ◌≤◌, Bool, false, cond, not, ◌&&◌, ◌||◌, List, [], ◌∷◌, length, ◌==◌, nat_le, slice_index_or}
+use Rattle.std.specs.Prelude.{ℕ, Bool, false, cond, not, ◌&&◌, ◌||◌, List, [], ◌∷◌, ◌==◌, nat_le, slice_index_or}
 use Rattle.labels.specs.Meaning.{Meaning}
 use Rattle.labels.specs.declared.range.Given.{Given}
 use Rattle.labels.specs.declared.range.Range.{Range}
@@ -31,10 +31,6 @@ nothing = record { guard = 0; range = record { low = 0; high = 0 } }
 
 abbrev pub given_at : List Given → ℕ → Given
 given_at rs k = slice_index_or rs k nothing
-
--- each range is given to a guard 0 to 31, and ends among the code points
-abbrev pub Told : List Given → Type 0
-Told rs = (k : ℕ) → k < length rs → ((given_at rs k).guard < 32) × ((given_at rs k).range.high ≤ 0x10FFFF)
 
 -- the first number from x on that is no surrogate
 abbrev pub past_surrogates : ℕ → ℕ

@@ -1,7 +1,7 @@
 -- The meaning of a kind that keeps, for each of its labels 0, 1, 2 .., the set of the guards that hold of it.
-use Rattle.std.specs.Prelude.{◌≡◌, ℕ, ◌<◌, Bool, ◌&&◌, ◌||◌, List, length, Some, None, Option, ◌==◌, nat_lt, slice_index_or}
+use Rattle.std.specs.Prelude.{◌≡◌, ℕ, ◌<◌, Bool, ◌&&◌, ◌||◌, List, length, ◌==◌, nat_lt, slice_index_or}
 use Rattle.labels.specs.Meaning.{Meaning}
-use Rattle.labels.specs.Sets.{has, Between}
+use Rattle.labels.specs.Sets.{has}
 use Rattle.labels.specs.declared.set.GuardSet.{GuardSet}
 
 abbrev pub empty : GuardSet
@@ -13,11 +13,6 @@ set_at sets x = (slice_index_or sets x empty).0
 
 abbrev pub table_meaning : List GuardSet → ℕ → Meaning
 table_meaning sets n = record { label = λ x. nat_lt x (length sets); guards = n; holds = λ g x. nat_lt x (length sets) && has (set_at sets x) g }
-
--- the first index at which the set has all of ins and none of outs, or none exactly if there is none
-abbrev pub FirstFit : ℕ → ℕ → List GuardSet → Option ℕ → Type 0
-FirstFit ins outs sets None = (k : ℕ) → k < length sets → Between ins outs (set_at sets k) → ⊥
-FirstFit ins outs sets (Some i) = (i < length sets) × Between ins outs (set_at sets i) × ((k : ℕ) → k < i → Between ins outs (set_at sets k) → ⊥)
 
 -- guard g joined to the sets at the labels of vs
 pub record Marked (sets : List GuardSet) (g : ℕ) (vs : ℕ → Bool) (marked : List GuardSet) : Type 0 where

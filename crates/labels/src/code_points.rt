@@ -7,8 +7,7 @@ ghost use Rattle.labels.specs.Ranges.{code_label, code_meaning, covered, given_a
 ghost use Rattle.labels.specs.Sets.{has};
 
 use crate::kind::{AddFault, LabelKind, NarrowKind};
-use crate::range::{Given, Range};
-use crate::ranges::{is_surrogate, skip_surrogates};
+use crate::range::{Given, Range, is_surrogate, skip_surrogates};
 use crate::set::GuardSet;
 use std::alloc::{AllocError, Global};
 
@@ -38,6 +37,7 @@ impl CodePoints {
     }
 
     // The guards with a range that has x.
+    #[tactic(auto, using(crate::proofs::Covering::covered_more))]
     fn guards_at(&self, x: u32) -> GuardSet
         ensures { (g : ℕ) → has result.0 g ≡ covered self.now.ranges.items g x }
     {
@@ -88,6 +88,7 @@ impl LabelKind for CodePoints {
         best.map(u64::from)
     }
 
+    #[tactic(auto, using(crate::proofs::Covering::covered_push))]
     fn add(&mut self, guard: u32, value: &Range) -> Result<(), AddFault> {
         if guard > 31 {
             return Err(AddFault::Guard);

@@ -11,32 +11,27 @@ ghost use Rattle.labels.specs.Tables.{set_at, table_meaning, Marked};
 use crate::kind::{AddFault, LabelKind, NarrowKind};
 use crate::pattern::Pattern;
 use crate::set::GuardSet;
-use crate::table::first_fit;
+use crate::table::GuardTable;
 use std::alloc::{AllocError, Global};
 
 // The words of 16 bits, and how many patterns their guards have, 64 at most.
 #[derive(Drop)]
 pub struct EventWords {
-    // for each word the guards that hold of it, so that each question is one pass over the table
-    sets: Vec<GuardSet>,
-    guards: u32,
+    table: GuardTable<Vec<GuardSet>>,
     patterns: usize,
-    ghost long: { length sets.items ≡ 65536 },
-    ghost few: { guards ≤ 32 },
-    ghost known: { (x g : ℕ) → guards ≤ g → has (set_at sets.items x) g ≢ true },
+    ghost long: { length table.sets.items ≡ 65536 },
     ghost limit: { patterns ≤ 64 },
 }
 
 impl EventWords {
     // The event words with no guard.
     pub fn new(heap: Global) -> Result<EventWords, AllocError>
-        ensures meaning { IfOk result (λ k. Fresh (table_meaning k.sets.items k.guards) (λ x. nat_lt x 65536)) }
+        ensures meaning { IfOk result (λ k. Fresh (table_meaning k.table.sets.items k.table.guards) (λ x. nat_lt x 65536)) }
         ensures patterns { IfOk result (λ k. k.patterns ≡ 0) }
     {
         let sets = vec![in heap; GuardSet(0); 65536]?;
         Ok(EventWords {
-            sets,
-            guards: 0,
+            table: GuardTable { sets, guards: 0 },
             patterns: 0,
         })
     }
@@ -45,25 +40,22 @@ impl EventWords {
 impl LabelKind for EventWords {
     type Value = String;
 
-    ghost book = { λ k. record { meaning = table_meaning k.sets.items k.guards; formed = λ v. pattern_formed (string_bytes v); labels = λ v. matches (string_bytes v); full = λ gs _. nat_le 64 (k.patterns + length gs) } };
+    ghost book = { λ k. record { meaning = table_meaning k.table.sets.items k.table.guards; formed = λ v. pattern_formed (string_bytes v); labels = λ v. matches (string_bytes v); full = λ gs _. nat_le 64 (k.patterns + length gs) } };
 
     fn count(&self) -> u32 {
-        self.guards
+        self.table.guards
     }
 
     fn label(&self, x: u64) -> bool {
-        x < 65536
+        self.table.label(x)
     }
 
     fn holds(&self, guard: u32, x: u64) -> bool {
-        x < 65536 && self.sets[x as usize].contains(guard)
+        self.table.holds(guard, x)
     }
 
     fn least(&self, yes: GuardSet, no: GuardSet) -> Option<u64> {
-        match first_fit(&self.sets, yes, no) {
-            Some(i) => Some(i as u64),
-            None => None,
-        }
+        self.table.least(yes, no)
     }
 
     fn add(&mut self, guard: u32, value: &String) -> Result<(), AddFault> {
@@ -76,13 +68,13 @@ impl LabelKind for EventWords {
         if self.patterns == 64 {
             return Err(AddFault::Full);
         }
-        mark(&mut self.sets, guard, pattern);
-        self.guards = self.guards.max(guard + 1);
+        self.table.guards = self.table.guards.max(guard + 1);
+        mark(&mut self.table.sets, guard, pattern);
         self.patterns += 1;
         Ok(())
     }
 
-    ghost lawful = { λ k. table_lawful k.sets.items k.guards k.long (Prim.search rules) (Prim.search rules) k.few k.known };
+    ghost lawful = { λ k. table_lawful k.table.sets.items k.table.guards k.long (Prim.search rules) (Prim.search rules) k.table.few k.table.known };
 }
 
 impl NarrowKind for EventWords {
@@ -90,19 +82,18 @@ impl NarrowKind for EventWords {
         65535
     }
 
-    ghost narrow = { λ k x. table_narrow k.sets.items k.guards k.long (Prim.search rules) x };
+    ghost narrow = { λ k x. table_narrow k.table.sets.items k.table.guards k.long (Prim.search rules) x };
 }
 
 // Joins the guard to the sets of the words that the pattern admits.
-fn mark(sets: &mut Vec<GuardSet>, guard: u32, pattern: Pattern)
-    requires long { vec_len sets.old ≤ 65536 }
+fn mark(sets: &mut [GuardSet], guard: u32, pattern: Pattern)
+    requires long { length sets.old ≤ 65536 }
     requires small { guard < 32 }
-    ensures { Marked sets.old.items guard (admits pattern) sets.new.items }
+    ensures { Marked sets.old guard (admits pattern) sets.new }
 {
-    for i in 0..sets.len() {
+    for (i, set) in sets.iter_mut().enumerate() {
         if pattern.has(i as u32) {
-            let set = sets[i].with(guard);
-            sets[i] = set;
+            *set = set.with(guard);
         }
     }
 }

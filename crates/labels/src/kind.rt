@@ -1,19 +1,21 @@
 // What every label kind answers.
-ghost use Rattle.std.specs.Prelude.{◌≡◌, ℕ, ◌^◌, ◌<◌, true};
+ghost use Rattle.std.specs.Prelude.{◌≡◌, ℕ, ◌^◌, ◌<◌, true, Some};
 ghost use Rattle.labels.specs.Meaning.{Lawful, IsLeast, IsLargest};
-ghost use Rattle.labels.specs.Adding.{Book, Adds, number_of};
+ghost use Rattle.labels.specs.Adding.{Book, Adds, fault_text, number_of};
 
 use crate::set::GuardSet;
+use std::error::Error;
+use std::fmt;
 
 // Why a value is not added.
 #[derive(Clone, Copy, Debug, PartialEq, Eq)]
 pub enum AddFault {
     // the guard's number is above 31
-    Guard,
+    Guard = 10,
     // the value is not of the kind's form
-    Value,
+    Value = 11,
     // there is no place for one more value
-    Full,
+    Full = 12,
 }
 
 impl AddFault {
@@ -21,13 +23,23 @@ impl AddFault {
     pub fn number(self) -> u32
         ensures { result ≡ number_of self }
     {
+        self as u32
+    }
+}
+
+impl fmt::Display for AddFault {
+    ghost output = { λ fault. Some (fault_text fault) };
+
+    fn fmt<W: fmt::Write>(&self, f: &mut fmt::Formatter<W>) -> fmt::Result {
         match self {
-            AddFault::Guard => 10,
-            AddFault::Value => 11,
-            AddFault::Full => 12,
+            AddFault::Guard => f.write_str("the guard's number is above 31"),
+            AddFault::Value => f.write_str("the value is not of the kind's form"),
+            AddFault::Full => f.write_str("there is no place for one more value"),
         }
     }
 }
+
+impl Error for AddFault {}
 
 // A set of labels with guards 0 to n - 1, each of which holds of some of the labels.
 pub trait LabelKind {

@@ -6,7 +6,6 @@ pub mod events;
 pub mod kind;
 pub mod pattern;
 pub mod range;
-mod ranges;
 pub mod set;
 mod table;
 pub mod tags;

@@ -4,7 +4,7 @@ ghost use Rattle.labels.specs.Masks.{Bit, Spells, admits};
 ghost use Rattle.labels.specs.Patterns.{pattern_formed};
 
 // A word fits where its bits under the care mask are those of the value.
-#[derive(Clone, Copy)]
+#[derive(Clone, Copy, Debug, PartialEq, Eq)]
 pub struct Pattern {
     care: u32,
     value: u32,

@@ -7,6 +7,7 @@ ghost use Rattle.labels.specs.Sets.{has, Between};
 pub struct GuardSet(pub u32);
 
 impl GuardSet {
+    #[tactic(auto, using(crate::proofs::Bits::has_none))]
     pub fn none() -> GuardSet
         ensures { (g : ℕ) → has result.0 g ≡ false }
     {
@@ -14,6 +15,7 @@ impl GuardSet {
     }
 
     // The set with one guard more; a number above 31 adds nothing.
+    #[tactic(auto, using(crate::proofs::Bits::has_with))]
     pub fn with(self, guard: u32) -> GuardSet
         ensures { (g : ℕ) → has result.0 g ≡ (has self.0 g || (g == guard && nat_lt guard 32)) }
     {
@@ -24,6 +26,7 @@ impl GuardSet {
         }
     }
 
+    #[tactic(auto, using(crate::proofs::Bits::has_shifted, crate::proofs::Bits::has_above))]
     pub fn contains(self, guard: u32) -> bool
         ensures { result ≡ has self.0 guard }
     {
@@ -31,6 +34,7 @@ impl GuardSet {
     }
 
     // Every guard of `other` is here.
+    #[tactic(auto, using(crate::proofs::Bits::includes_decides))]
     pub fn includes(self, other: GuardSet) -> bool
         ensures { Decides result ((g : ℕ) → has other.0 g ≡ true → has self.0 g ≡ true) }
     {
@@ -38,6 +42,7 @@ impl GuardSet {
     }
 
     // No guard of `other` is here.
+    #[tactic(auto, using(crate::proofs::Bits::excludes_decides))]
     pub fn excludes(self, other: GuardSet) -> bool
         ensures { Decides result ((g : ℕ) → has other.0 g ≡ true → has self.0 g ≡ false) }
     {
