@@ -1,9 +1,10 @@
 -- The labels of a pair.
-use Rattle.std.proofs.Common.{◌≡◌, ℕ, ◌+◌, ◌*◌, ◌^◌, ◌<◌, ◌≤◌, true, List, get_or, is_some, Some, None, Option, ◌≢◌, refl, ap, ◌∙◌, ⊎_elim, arith}
+use Rattle.std.proofs.Common.{◌≡◌, ℕ, ◌+◌, ◌*◌, ◌^◌, ◌<◌, ◌≤◌, true, List, is_some, Some, None, Option, ◌≢◌, refl, arith}
 use Rattle.std.proofs.lemmas.Nat.{div-mul-add, mod-mul-add}
-use Rattle.std.proofs.lemmas.Bool.{cases_lt, and_parts, and_from}
+use Rattle.std.proofs.lemmas.Grind.{common_steps}
+use Rattle.std.proofs.lemmas.Bool.{and_parts}
 use Rattle.labels.specs.Meaning.{Meaning, Lawful}
-use Rattle.pairs.specs.Pairs.{pair_meaning, pair_label, given_holds, first_of, second_of, value_at}
+use Rattle.pairs.specs.Pairs.{pair_meaning, given_holds, first_of, second_of, value_at}
 use Rattle.pairs.specs.Search.{Narrow}
 use Rattle.pairs.specs.declared.value.PairValue.{PairValue}
 
@@ -27,9 +28,9 @@ pair_lawful a b vs n law law' narrow narrow' few known =
     let small = narrow' q law'.some.1 in
     record {
       below = λ x h. let high = narrow (first_of x) (and_parts (a.label (first_of x)) (b.label (second_of x)) h).0 in omega arith;
-      some = (p * 2 ^ 32 + q, and_from (a.label (first_of (p * 2 ^ 32 + q))) (b.label (second_of (p * 2 ^ 32 + q))) (ap a.label (first_is p q small) ∙ law.some.1) (ap b.label (second_is p q small) ∙ law'.some.1));
+      some = (p * 2 ^ 32 + q, simp (first_is p q small, second_is p q small, law.some.1, law'.some.1));
       few = few;
       inside = λ g x h.
-          let parts = and_parts (pair_label a b x) (given_holds a b (get_or vs g None) x) h in
-          (⊎_elim (λ lt. lt) (λ up. absurd (known g up (given_from_holds a b (get_or vs g None) x parts.1))) (cases_lt g n), parts.0);
+          let given = given_from_holds a b (value_at vs g) x in
+          (grind (arith, common_steps, known g, given), grind (arith, common_steps));
     }

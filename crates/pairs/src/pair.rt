@@ -59,7 +59,7 @@ impl<A: NarrowKind, B: NarrowKind> LabelKind for Pair<A, B> {
 
     fn holds(&self, guard: u32, x: u64) -> bool {
         self.label(x)
-            && self.values.at(guard).is_some_and(|v| {
+            && self.values.get(guard).is_some_and(|v| {
                 self.first.holds(v.first, x / SPAN) && self.second.holds(v.second, x % SPAN)
             })
     }
@@ -68,14 +68,12 @@ impl<A: NarrowKind, B: NarrowKind> LabelKind for Pair<A, B> {
         if !self.values.all_given(yes) {
             return None;
         }
-        let asked = self.values.firsts(no);
-        let ins = self.values.firsts(yes);
         let start = Path {
             yes,
             no,
-            asked,
+            asked: self.values.firsts(no),
             next: 0,
-            ins,
+            ins: self.values.firsts(yes),
             outs: GuardSet::none(),
         };
         self.search(start, None)
@@ -92,7 +90,7 @@ impl<A: NarrowKind, B: NarrowKind> LabelKind for Pair<A, B> {
         if v.first >= self.first.count() || v.second >= self.second.count() {
             return Err(AddFault::Value);
         }
-        if self.values.at(guard).is_some() {
+        if self.values.get(guard).is_some() {
             return Err(AddFault::Full);
         }
         self.values.put(guard, v);

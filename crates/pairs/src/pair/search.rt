@@ -74,6 +74,7 @@ impl<A: NarrowKind, B: NarrowKind> Pair<A, B> {
     }
 
     // Shows that the labels of both parts lie below 2^32; does nothing.
+    // It is a method, since of a type parameter only a call of `largest` tells this.
     pub(super) fn narrow(&self)
         ensures first { Narrow (A.LabelKind.book self.now.first).meaning }
         ensures second { Narrow (B.LabelKind.book self.now.second).meaning }
