@@ -1,45 +1,44 @@
 -- From the atoms of the first g guards to those of the first g + 1.
-use Rattle.std.proofs.Common.{◌≡◌, ℕ, ◌+◌, ◌<◌, ◌≤◌, false, ◌&&◌, ◌||◌, eqb, ltb, ◌⊎◌, List, Ok, Err, sym, subst, inl, inr, ⊎_elim, arith}
+use Rattle.std.proofs.Common.{◌≡◌, ℕ, ◌+◌, ◌<◌, ◌≤◌, false, ◌&&◌, ◌||◌, eqb, ltb, ◌⊎◌, List, length, Ok, Err, sym, subst, inl, inr, ⊎_elim, arith}
 use Rattle.std.proofs.lemmas.Bool.{cases_lt}
+use Rattle.std.proofs.lemmas.List.{length_push}
+use Rattle.arrayvec.specs.ArrayVec.{ArrayVec}
 use Rattle.labels.specs.Meaning.{Meaning, Lawful}
 use Rattle.labels.specs.Sets.{has}
-use Rattle.atoms.specs.Atoms.{Exactly, Lists, MoreThan}
-use Rattle.atoms.specs.Drafts.{Keeps, first, atom_of}
-use Rattle.atoms.specs.Entries.{label_at, set_at}
+use Rattle.atoms.specs.Atoms.{Exactly, MoreThan}
+use Rattle.atoms.specs.Drafts.{Covers, Keeps, first, atom_of}
+use Rattle.atoms.specs.Entries.{blank, label_at, set_at}
 use Rattle.atoms.specs.declared.atom.Atom.{Atom}
-use Rattle.atoms.specs.declared.draft.Draft.{Draft}
 use Rattle.atoms.specs.declared.fault.TooManyAtoms.{TooManyAtoms}
-use Rattle.atoms.proofs.Covering.{Covers, covers_same, covers_none, same_label, placed_covers, crowded}
+use Rattle.atoms.proofs.Covering.{covers_same, same_label, pushed_covers, crowded}
 use Rattle.atoms.proofs.Exactness.{same_set, only_first, split_exact, exact_with, exact_without, with_or_without, with_only, exact_none_yet, exact_all, all_exact}
 
-module _ {m : Meaning} {D : ℕ → Type 0} (d e : Draft) (s : ℕ) (new : (y : ℕ) → Exactly m s y → D y → ⊥) (c : Covers m D d.atoms d.len) where
-  pub kept_covers : (u : Unit {0}) → Keeps m s d (Ok u) e → Covers m (λ x. D x ⊎ Exactly m s x) e.atoms e.len
+module _ {m : Meaning} {D : ℕ → Type 0} (d e : ArrayVec Atom) (s : ℕ) (new : (y : ℕ) → Exactly m s y → D y → ⊥) (c : Covers m D d.items) where
+  pub kept_covers : (u : Unit {0}) → Keeps m s d (Ok u) e → Covers m (λ x. D x ⊎ Exactly m s x) e.items
   kept_covers u =
       ⊎_elim
-      (λ k. subst (λ (b : Draft). Covers m (λ x. D x ⊎ Exactly m s x) b.atoms b.len) (sym k.1) (covers_same (λ x. inl) (λ x. ⊎_elim (λ h. h) (λ h. absurd (k.0 x h))) c))
-      (λ k. subst (Covers m (λ x. D x ⊎ Exactly m s x) e.atoms) (sym k.2) (placed_covers c (atom_of k.0 s) e.atoms k.1 new k.3))
+      (λ k. subst (λ (b : ArrayVec Atom). Covers m (λ x. D x ⊎ Exactly m s x) b.items) (sym k.1) (covers_same (λ x. inl) (λ x. ⊎_elim (λ h. h) (λ h. absurd (k.0 x h))) c))
+      (λ k. subst (Covers m (λ x. D x ⊎ Exactly m s x)) (sym k.2) (pushed_covers c (atom_of k.0 s) k.1 new))
 
   pub kept_crowded : (b : Meaning) (count : ℕ) → m ≡ first count b → (f : TooManyAtoms) → Keeps m s d (Err f) e → MoreThan 16 b
-  kept_crowded b count is f k = crowded c s k.0 k.1 new b count is k.2
+  kept_crowded b count is f k = crowded (pushed_covers c (atom_of k.0 s) k.1 new) b count 16 is (omega (arith, k.2, length_push d.items (atom_of k.0 s)))
 
 -- the labels of the first i atoms of xs
 abbrev pub Among : Meaning → List Atom → ℕ → ℕ → Type 0
 Among m xs i x = (j : ℕ) × (j < i) × Exactly m (set_at xs j) x
 
-module _ (b : Meaning) (g : ℕ) (small : g < 32) (xs : List Atom) (n : ℕ) (l : Lists (first g b) xs n) where
+module _ (b : Meaning) (g : ℕ) (small : g < 32) (xs : List Atom) (c : Covers (first g b) (λ x. Unit {0}) xs) where
   -- no label is of two atoms
-  apart : (i x : ℕ) → i < n → Exactly (first g b) (set_at xs i) x → Among (first g b) xs i x → ⊥
+  apart : (i x : ℕ) → i < length xs → Exactly (first g b) (set_at xs i) x → Among (first g b) xs i x → ⊥
   apart i x h e among =
       let under = among.1 in
       let same = same_set (first g b) (set_at xs among.0) (set_at xs i) x among.2 e in
-      let label = same_label (first g b) (set_at xs among.0) (set_at xs i) (label_at xs among.0) (label_at xs i) (l.each among.0 (omega arith)) (l.each i h) same in
-      let up = l.rises among.0 i under h in
-      omega arith
+      c.apart among.0 i blank under h (same_label (first g b) _ _ _ _ (c.each among.0 blank (omega arith)) (c.each i blank h) same)
 
-  pub only_at : (i : ℕ) → i < n → (h : ℕ) → g ≤ h → has (set_at xs i) h ≡ false
-  only_at i h = only_first b g (set_at xs i) (label_at xs i) (l.each i h).exact
+  pub only_at : (i : ℕ) → i < length xs → (h : ℕ) → g ≤ h → has (set_at xs i) h ≡ false
+  only_at i h = only_first b g (set_at xs i) (label_at xs i) (c.each i blank h).exact
 
-  module _ (i w : ℕ) (within : i < n) (put : (h : ℕ) → has w h ≡ (has (set_at xs i) h || (eqb h g && ltb g 32))) where
+  module _ (i w : ℕ) (within : i < length xs) (put : (h : ℕ) → has w h ≡ (has (set_at xs i) h || (eqb h g && ltb g 32))) where
     only : (h : ℕ) → g ≤ h → has (set_at xs i) h ≡ false
     only = only_at i within
 
@@ -69,30 +68,18 @@ module _ (b : Meaning) (g : ℕ) (small : g < 32) (xs : List Atom) (n : ℕ) (l 
         ⊎_elim (λ e. inl (inr e)) inr (split_exact b g (set_at xs i) w small only put x (subst (λ j. Exactly (first g b) (set_at xs j) x) same a.2)))
         (cases_lt a.0 i)
 
-    pub next_covers : (ys : List Atom) (k : ℕ) → Covers (first (g + 1) b) (λ x. (Among (first g b) xs i x ⊎ Exactly (first (g + 1) b) w x) ⊎ Exactly (first (g + 1) b) (set_at xs i) x) ys k → Covers (first (g + 1) b) (Among (first g b) xs (i + 1)) ys k
-    next_covers ys k = covers_same to_next from_next
-
-  pub none_covers : (ys : List Atom) (k : ℕ) → k ≡ 0 → Covers (first (g + 1) b) (Among (first g b) xs 0) ys k
-  none_covers ys k e = subst (Covers (first (g + 1) b) (Among (first g b) xs 0) ys) (sym e) (covers_same (λ x. absurd) (λ x a. let lt = a.1 in omega arith) (covers_none (first (g + 1) b) ys))
-
-  pub all_listed : (ys : List Atom) (k i : ℕ) → n ≤ i → Covers (first (g + 1) b) (Among (first g b) xs i) ys k → Lists (first (g + 1) b) ys k
-  all_listed ys k i done c = record {
-    each = c.each;
-    rises = c.rises;
-    whole = λ x e. let found = l.whole x e in c.whole x e (found.0, let lt = found.1 in omega arith, found.2);
-  }
+    pub next_covers : (ys : List Atom) → Covers (first (g + 1) b) (λ x. (Among (first g b) xs i x ⊎ Exactly (first (g + 1) b) w x) ⊎ Exactly (first (g + 1) b) (set_at xs i) x) ys → Covers (first (g + 1) b) (Among (first g b) xs (i + 1)) ys
+    next_covers ys = covers_same to_next from_next
 
 -- the one atom among no guards
-pub first_listed : (b : Meaning) (s : ℕ) (ys : List Atom) (k : ℕ) → ((g : ℕ) → has s g ≡ false) → Covers (first 0 b) (λ x. ⊥ ⊎ Exactly (first 0 b) s x) ys k → Lists (first 0 b) ys k
-first_listed b s ys k none c = record { each = c.each; rises = c.rises; whole = λ x e. c.whole x e (inr (exact_none_yet b s x none e)) }
+pub first_covers : (b : Meaning) (s : ℕ) (ys : List Atom) → ((g : ℕ) → has s g ≡ false) → Covers (first 0 b) (λ x. ⊥ ⊎ Exactly (first 0 b) s x) ys → Covers (first 0 b) (λ x. Unit {0}) ys
+first_covers b s ys none c = record { each = c.each; inside = λ k a h. tt; apart = c.apart; whole = λ x e u. c.whole x e (inr (exact_none_yet b s x none e)) }
 
 -- the atoms among all guards
-pub last_listed : (b : Meaning) (ys : List Atom) (k : ℕ) → Lawful b → Lists (first b.guards b) ys k → Lists b ys k
-last_listed b ys k law l = record {
-  each = λ i h. let a = l.each i h in record { exact = exact_all b law (set_at ys i) (label_at ys i) a.exact; least = λ y e. a.least y (all_exact b law (set_at ys i) y e) };
-  rises = l.rises;
-  whole = λ x e. let found = l.whole x e in (found.0, found.1, exact_all b law (set_at ys found.0) x found.2);
+pub last_covers : (b : Meaning) (ys : List Atom) → Lawful b → Covers (first b.guards b) (λ x. Unit {0}) ys → Covers b (λ x. Unit {0}) ys
+last_covers b ys law c = record {
+  each = λ k d h. let a = c.each k d h in record { exact = exact_all b law _ _ a.exact; least = λ y e. a.least y (all_exact b law _ y e) };
+  inside = c.inside;
+  apart = c.apart;
+  whole = λ x e u. let found = c.whole x e tt in (found.0, found.1, exact_all b law _ x found.2);
 }
-
-pub empty_covers : (m : Meaning) (d : Draft) → d.len ≡ 0 → Covers m (λ x. ⊥) d.atoms d.len
-empty_covers m d e = subst (Covers m (λ x. ⊥) d.atoms) (sym e) (covers_none m d.atoms)

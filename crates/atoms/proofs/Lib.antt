@@ -1,6 +1,4 @@
-pub mod Placing
 pub mod Exactness
 pub mod Covering
 pub mod Dividing
-pub mod Pigeonhole
 pub mod Tables

@@ -2,9 +2,7 @@
 #![tactic(auto)]
 
 pub mod atom;
-mod draft;
 pub mod fault;
 pub mod find;
-mod insert;
 mod split;
 pub mod table;

@@ -1,11 +1,9 @@
 // The table of a guard book's atoms.
 ghost use Rattle.std.specs.Prelude.{◌≡◌, ℕ, ◌<◌, ◌≤◌, true, length, take, ◌≢◌};
 ghost use Rattle.labels.specs.Sets.{has};
-ghost use Rattle.atoms.specs.Entries.{label_at, set_at, Sound, Unwritten, AtomAt};
+ghost use Rattle.atoms.specs.Entries.{atom_at, label_at, set_at, Sound, Unwritten, AtomAt};
 
 use crate::atom::Atom;
-use crate::draft::Draft;
-use labels::set::GuardSet;
 
 // At most 16 atoms by rising label, and the number of guards they speak of. Fresh, or written by `atoms`.
 #[derive(Clone, Copy)]
@@ -29,27 +27,20 @@ impl AtomTable {
     pub fn fresh() -> AtomTable
         ensures { Unwritten result.atoms result.count result.guards }
     {
-        let blank = Atom {
-            label: 0,
-            guards: GuardSet(0),
-        };
-        let atoms = [blank; 16];
-        AtomTable {
-            atoms,
-            count: 1,
-            guards: 0,
-        }
+        AtomTable::of_atoms(&[Atom::default()], 0)
     }
 
-    // The atoms of a draft, which speak of the first `guards` guards.
-    pub(crate) fn of_draft(draft: &Draft, guards: u32) -> AtomTable
-        requires { Sound draft.now.atoms draft.now.len guards }
-        ensures atoms { result.atoms ≡ draft.now.atoms }
-        ensures count { result.count ≡ draft.now.len }
+    // These atoms, which speak of the first `guards` guards.
+    pub(crate) fn of_atoms(found: &[Atom], guards: u32) -> AtomTable
+        requires fits { length found.now ≤ 16 }
+        requires sound { Sound found.now (length found.now) guards }
+        ensures atoms { (k : ℕ) → atom_at result.atoms k ≡ atom_at found.now k }
+        ensures count { result.count ≡ length found.now }
         ensures guards { result.guards ≡ guards }
     {
-        let atoms = draft.atoms;
-        let count = draft.len;
+        let mut atoms = [Atom::default(); 16];
+        let count = found.len();
+        atoms[..count].copy_from_slice(found);
         AtomTable {
             atoms,
             count,

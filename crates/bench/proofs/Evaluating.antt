@@ -1,18 +1,19 @@
 -- The states of nodes, each from those of the nodes before it.
-use Rattle.std.proofs.Common.{◌≡◌, ℕ, zero, suc, ◌+◌, ◌-◌, ◌<◌, Bool, List, length, get_or, set, Ok, sym, refl, ap, ◌∙◌, subst, ⊎_elim, arith}
+use Rattle.std.proofs.Common.{◌≡◌, ℕ, zero, suc, ◌+◌, ◌<◌, Bool, List, length, get_or, set, Ok, sym, refl, ap, ◌∙◌, subst, arith, below_more}
 use Rattle.std.proofs.lemmas.List.{get_or-set_same, get_or-set_other}
-use Rattle.std.proofs.lemmas.Bool.{cases_lt, lt-ltb}
+use Rattle.std.proofs.lemmas.Bool.{lt-ltb}
 use Rattle.labels.specs.Meaning.{Meaning}
 use Rattle.atoms.specs.Atoms.{Exactly}
 use Rattle.atoms.specs.Entries.{set_at}
 use Rattle.atoms.specs.declared.atom.Atom.{Atom}
+use Rattle.atoms.specs.declared.table.AtomTable.{AtomTable}
 use Rattle.trees.specs.Trees.{leaf, one, two}
 use Rattle.trees.specs.Automata.{Automaton, Complete}
 use Rattle.trees.specs.Rounds.{Combination, nullary, unary, binary, Below, step}
 use Rattle.trees.specs.Trees.{letters}
-use Rattle.bench.specs.Combining.{combine, over, Inside}
+use Rattle.bench.specs.Combining.{combine, over}
 use Rattle.bench.specs.Nodes.{line_of, line, node_at, line_at, Counted, AllShaped}
-use Rattle.bench.specs.Benches.{Stored}
+use Rattle.bench.specs.Benches.{shelves_in, shelf_at}
 use Rattle.bench.specs.Shelves.{automaton}
 use Rattle.bench.specs.Testing.{HasState, Roots, Tests}
 use Rattle.bench.specs.declared.node.Node.{Node}
@@ -31,12 +32,6 @@ label_line (suc (suc n)) x p q = refl
 pub record Evaluated (m : Meaning) (xs : List Atom) (n : ℕ) (A : Automaton) (nodes : List Node) (k s : ℕ) : Type 0 where
   pub has : HasState m xs n A nodes k s
   pub small : s < A.size
-
--- the children of a line have states of the automaton
-pub over_inside : (f : ℕ → ℕ) (k n : ℕ) → ((p : ℕ) → p < k → f p < n) → (c : Combination) → Below k c → Inside n (over f c)
-over_inside f k n small (nullary x) b = tt
-over_inside f k n small (unary p x) b = small p b
-over_inside f k n small (binary p q x) b = (small p b.0, small q b.1)
 
 module _ (m : Meaning) (xs : List Atom) (n : ℕ) (A : Automaton) (complete : Complete (letters n) A) (nodes : List Node) (f : ℕ → ℕ) (k a : ℕ) (l : a < n) (before : (p : ℕ) → p < k → Evaluated m xs n A nodes p (f p)) where
   -- a node gets its state from those of its children
@@ -70,24 +65,15 @@ module _ (m : Meaning) (xs : List Atom) (n : ℕ) (A : Automaton) (complete : Co
 
 -- one node more
 pub one_evaluated : (m : Meaning) (xs : List Atom) (n : ℕ) (A : Automaton) → Complete (letters n) A → (nodes : List Node) (states : List ℕ) (i a s : ℕ) → i < length states → a < n → Exactly m (set_at xs a) (node_at nodes i).label → Below i (line_at nodes i) → s ≡ step A (combine (over (λ k. get_or states k 0) (line_at nodes i)) a) → ((k : ℕ) → k < i → Evaluated m xs n A nodes k (get_or states k 0)) → (k : ℕ) → k < i + 1 → Evaluated m xs n A nodes k (get_or (set states i s) k 0)
-one_evaluated m xs n A complete nodes states i a s w l exact b e h k lt =
+one_evaluated m xs n A complete nodes states i a s w l exact b e h =
     let P : ℕ → ℕ → Type 0 = λ j x. Evaluated m xs n A nodes j x in
-    ⊎_elim
-    (λ below. subst (P k) (sym (get_or-set_other states i k s 0 (omega arith))) (h k below))
-    (λ up.
-    let same : i ≡ k = omega arith in
-    subst (λ j. P j (get_or (set states i s) j 0)) same
-    (subst (P i) (sym e ∙ sym (get_or-set_same states i s 0 w)) (node_evaluated m xs n A complete nodes (λ j. get_or states j 0) i a l h b exact)))
-    (cases_lt k i)
+    below_more (λ k. P k (get_or (set states i s) k 0)) i
+    (λ k below. subst (P k) (sym (get_or-set_other states i k s 0 (omega arith))) (h k below))
+    (subst (P i) (sym e ∙ sym (get_or-set_same states i s 0 w)) (node_evaluated m xs n A complete nodes (λ j. get_or states j 0) i a l h b exact))
 
 -- the root's state tells whether the shelf accepts
-pub ran_tests : (m : Meaning) (xs : List Atom) (n : ℕ) (bytes : List ℕ) (k : ℕ) (nodes : List Node) (bs : List ℕ) (s : ℕ) (b : Bool) → Stored n bytes k bs → Counted nodes → AllShaped nodes → Roots m xs n (automaton bs) nodes (Ok s) → b ≡ (automaton bs).accepts s → Tests m xs n bytes k nodes (Ok b)
-ran_tests m xs n bytes k nodes bs s b stored counted shaped ran e = (
-  stored.on,
-  counted,
-  shaped,
-  ran.1,
-  s,
-  subst (λ cs. HasState m xs n (automaton cs) nodes (length nodes - 1) s) stored.same ran.2,
-  e ∙ ap (λ cs. (automaton cs).accepts s) stored.same,
-)
+pub ran_tests : (m : Meaning) (table : AtomTable) (bytes : List ℕ) (k : ℕ) (nodes : List Node) (used : AtomTable) (bs : List ℕ) (s : ℕ) (b : Bool) → k < shelves_in (length bytes) → bs ≡ shelf_at bytes k → used ≡ table → Counted nodes → AllShaped nodes → Roots m used.atoms used.count (automaton bs) nodes (Ok s) → b ≡ (automaton bs).accepts s → Tests m table.atoms table.count bytes k nodes (Ok b)
+ran_tests m table bytes k nodes used bs s b on same own counted shaped ran e =
+    let Roots' : AtomTable → List ℕ → Type 0 = λ t cs. Roots m t.atoms t.count (automaton cs) nodes (Ok s) in
+    let root = subst (λ cs. Roots' table cs) same (subst (λ t. Roots' t bs) own ran) in
+    (on, counted, shaped, root.1, s, root.2, e ∙ ap (λ cs. (automaton cs).accepts s) same)

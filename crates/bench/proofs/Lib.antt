@@ -2,6 +2,6 @@ pub mod Fresh
 pub mod SameBytes
 pub mod Writing
 pub mod Reading
-pub mod Wiping
+pub mod Pieces
 pub mod Lookups
 pub mod Evaluating

@@ -1,11 +1,8 @@
 -- What a sound shelf gives whoever reads it: facts that have one proof at most.
-use Rattle.std.proofs.Common.{ℕ, ◌≤◌, List, get_or, arith}
+use Rattle.std.proofs.Common.{ℕ, ◌≤◌, List, get_or}
 use mathlib.Core.Logic.{∥∥₁_elim}
 use native.Mathlib.Bridge.{le_prop}
 use Rattle.trees.specs.Automata.{Complete}
-use Rattle.bench.specs.Combining.{Inside}
-use Rattle.bench.specs.declared.children.Children.{Children}
-use Rattle.bench.specs.declared.children.Children.TheVariants.{No, One, Two}
 use Rattle.trees.specs.Trees.{letters}
 use Rattle.bench.specs.Shelves.{automaton, Sound}
 
@@ -19,8 +16,3 @@ module _ (n : ℕ) (bs : List ℕ) (sound : ∥ Sound n bs ∥₁) where
     single = λ p a h l. ∥∥₁_elim sound le_prop (λ s. s.normal.accepts.complete.single p a h l);
     double = λ p q a h k l. ∥∥₁_elim sound le_prop (λ s. s.normal.accepts.complete.double p q a h k l);
   }
-
-pub inside_wider : (m n : ℕ) → m ≤ n → (c : Children) → Inside m c → Inside n c
-inside_wider m n h No i = tt
-inside_wider m n h (One p) i = omega arith
-inside_wider m n h (Two p q) i = omega arith

@@ -1,10 +1,10 @@
 -- Two shelves with one language have the same bytes.
-use Rattle.std.proofs.Common.{◌≡◌, ℕ, ◌-◌, ◌/◌, ◌%◌, ◌<◌, ◌≤◌, eqb, ◌↔◌, List, get_or, sym, ap, ◌∙◌, subst, ⊎_elim, arith}
+use Rattle.std.proofs.Common.{◌≡◌, ℕ, ◌-◌, ◌/◌, ◌%◌, ◌<◌, ◌↔◌, List, get_or, sym, ap, ◌∙◌, arith}
 use mathlib.Core.List.{is_set}
 use mathlib.Core.Logic.{∥∥₁_elim}
 use native.Mathlib.Nat.{ℕ_set}
 use Rattle.std.proofs.lemmas.List.{ext_get_or}
-use Rattle.std.proofs.lemmas.Bool.{cases_lt, lt-ltb}
+use Rattle.std.proofs.lemmas.Bool.{lt-ltb}
 use Rattle.std.proofs.lemmas.Bool.Decides.{nat_tests}
 use Rattle.trees.specs.Trees.{Tree, Alphabet, Over, Language}
 use Rattle.trees.specs.Automata.{Automaton, accepted}
@@ -23,69 +23,29 @@ normal_like σ L M A e f = record {
   numbered = f.numbered;
 }
 
-same_flag : (x y : ℕ) → x ≤ 1 → y ≤ 1 → eqb x 1 ≡ eqb y 1 → x ≡ y
-same_flag x y l m e = grind (arith, nat_tests)
-
 -- what neither uses is 0 in both
 module _ (n : ℕ) (bs cs : List ℕ) (b : Laid n bs) (c : Laid n cs) (same : Same (letters n) (automaton bs) (automaton cs)) where
   size : get_or bs 0 0 ≡ get_or cs 0 0
   size = same.size
 
   flag : (s : ℕ) → s < 32 → get_or bs (flag_at s) 0 ≡ get_or cs (flag_at s) 0
-  flag s l =
-      ⊎_elim
-      (λ used. same_flag _ _ (b.flags s l) (c.flags s l) (same.accepts s used))
-      (λ past. let e = size in b.no_flag s l (omega arith) ∙ sym (c.no_flag s l (omega arith)))
-      (cases_lt s (get_or bs 0 0))
+  flag s l = grind (arith, nat_tests, same.accepts s)
 
   none : (a : ℕ) → a < 16 → get_or bs (none_at a) 0 ≡ get_or cs (none_at a) 0
-  none a l =
-      ⊎_elim
-      (λ used. same.steps (nullary a) tt (lt-ltb a n used))
-      (λ past. b.no_none a l (omega arith) ∙ sym (c.no_none a l (omega arith)))
-      (cases_lt a n)
+  none a l = grind (arith, lt-ltb, same.steps (nullary a) tt)
 
   single : (p a : ℕ) → p < 32 → a < 16 → get_or bs (single_at p a) 0 ≡ get_or cs (single_at p a) 0
-  single p a l m =
-      let e = size in
-      let unused : (p < get_or bs 0 0 → a < n → ⊥) → get_or bs (single_at p a) 0 ≡ get_or cs (single_at p a) 0 = λ h. b.no_single p a l m h ∙ sym (c.no_single p a l m (λ x y. h (omega arith) y)) in
-      ⊎_elim
-      (λ atom. ⊎_elim (λ state. same.steps (unary p a) state (lt-ltb a n atom)) (λ past. unused (λ x y. omega arith)) (cases_lt p (get_or bs 0 0)))
-      (λ past. unused (λ x y. omega arith))
-      (cases_lt a n)
+  single p a l m = grind (arith, lt-ltb, same.steps (unary p a))
 
   double : (p q a : ℕ) → p < 32 → q < 32 → a < 16 → get_or bs (double_at p q a) 0 ≡ get_or cs (double_at p q a) 0
-  double p q a l m o =
-      let e = size in
-      let unused : (p < get_or bs 0 0 → q < get_or bs 0 0 → a < n → ⊥) → get_or bs (double_at p q a) 0 ≡ get_or cs (double_at p q a) 0 = λ h. b.no_double p q a l m o h ∙ sym (c.no_double p q a l m o (λ x y z. h (omega arith) (omega arith) z)) in
-      ⊎_elim
-      (λ atom.
-      ⊎_elim
-      (λ left. ⊎_elim (λ right. same.steps (binary p q a) (left, right) (lt-ltb a n atom)) (λ past. unused (λ x y z. omega arith)) (cases_lt q (get_or bs 0 0)))
-      (λ past. unused (λ x y z. omega arith))
-      (cases_lt p (get_or bs 0 0)))
-      (λ past. unused (λ x y z. omega arith))
-      (cases_lt a n)
+  double p q a l m o = grind (arith, lt-ltb, same.steps (binary p q a))
 
   -- every place is that of the size, of a flag or of an entry
   place : (k : ℕ) → k < 16945 → get_or bs k 0 ≡ get_or cs k 0
-  place k l =
-      let P : ℕ → Type 0 = λ j. get_or bs j 0 ≡ get_or cs j 0 in
-      ⊎_elim (λ h. subst P (omega arith) size)
-      (λ h.
-      ⊎_elim (λ f. subst P (omega arith) (flag (k - 1) (omega arith)))
-      (λ f.
-      ⊎_elim (λ z. subst P (omega arith) (none (k - 33) (omega arith)))
-      (λ z.
-      ⊎_elim (λ o. subst P (omega arith) (single ((k - 49) / 16) ((k - 49) % 16) (omega arith) (omega arith)))
-      (λ o. subst P (omega arith) (double ((k - 561) / 512) ((k - 561) / 16 % 32) ((k - 561) % 16) (omega arith) (omega arith) (omega arith)))
-      (cases_lt k 561))
-      (cases_lt k 49))
-      (cases_lt k 33))
-      (cases_lt k 1)
+  place k l = grind (arith, size, flag (k - 1), none (k - 33), single ((k - 49) / 16) ((k - 49) % 16), double ((k - 561) / 512) ((k - 561) / 16 % 32) ((k - 561) % 16))
 
   all_same : bs ≡ cs
-  all_same = ext_get_or 0 bs cs (b.long ∙ sym c.long) (λ k l. place k (omega (arith, b.long)))
+  all_same = ext_get_or 0 bs cs (omega arith) (λ k l. place k (omega arith))
 
 -- the same language, exactly if the same bytes
 pub same_bytes : (n : ℕ) (bs cs : List ℕ) → Sound n bs → Sound n cs → ((t : Tree) → Over (letters n) t → accepted (automaton bs) t ≡ accepted (automaton cs) t) ↔ (bs ≡ cs)

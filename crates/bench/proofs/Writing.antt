@@ -1,25 +1,25 @@
 -- What writing one shelf leaves of the others.
-use Rattle.std.proofs.Common.{◌≡◌, ℕ, ◌+◌, ◌-◌, ◌*◌, ◌<◌, ◌≤◌, List, length, get_or, take, drop, sym, refl, ap, ◌∙◌, subst, ⊎_elim, arith, rules}
+use Rattle.std.proofs.Common.{◌≡◌, ℕ, ◌+◌, ◌-◌, ◌*◌, ◌<◌, ◌≤◌, List, length, get_or, take, drop, sym, ap, ◌∙◌, subst, ⊎_elim, arith, rules, below_more}
 use borrow.Rule.Slice.PartMut.{put_mid}
-use Rattle.std.proofs.lemmas.List.{places, ext_get_or, length-take, length-drop, get_or-take, get_or-drop}
+use Rattle.std.proofs.lemmas.List.{places, ext_get_or, length-take, length-drop}
 use Rattle.std.proofs.lemmas.Slice.{between-put_mid}
 use Rattle.std.proofs.lemmas.Bool.{cases_lt, cases_eq}
 use Rattle.bench.specs.Shelves.{Sound, Fresh}
-use Rattle.bench.specs.Benches.{shelves_in, shelf_at, AllSound, Opened}
+use Rattle.bench.specs.Benches.{shelves_in, shelf_at, AllSound}
 
 -- a byte of a shelf
-pub getD_shelf : (xs : List ℕ) (k i : ℕ) → i < 16945 → get_or (shelf_at xs k) i 0 ≡ get_or xs (k * 16945 + i) 0
-getD_shelf xs k i l = get_or-take 16945 (drop (k * 16945) xs) i 0 l ∙ get_or-drop (k * 16945) xs i 0
+byte_at : (xs : List ℕ) (k i : ℕ) → i < 16945 → get_or (shelf_at xs k) i 0 ≡ get_or xs (k * 16945 + i) 0
+byte_at xs k i l = search (rules, places)
 
-pub length_shelf : (xs : List ℕ) (k : ℕ) → k < shelves_in (length xs) → length (shelf_at xs k) ≡ 16945
-length_shelf xs k l = length-take 16945 (drop (k * 16945) xs) ∙ omega (arith, length-drop (k * 16945) xs)
+length_shelf : (xs : List ℕ) (k : ℕ) → k < shelves_in (length xs) → length (shelf_at xs k) ≡ 16945
+length_shelf xs k l = simp (length-take, length-drop) (omega arith)
 
 -- lists that agree where a shelf stands have the same shelf there
 same_shelf : (xs zs : List ℕ) (k : ℕ) → length zs ≡ length xs → ((i : ℕ) → k * 16945 ≤ i → i < k * 16945 + 16945 → get_or zs i 0 ≡ get_or xs i 0) → k < shelves_in (length xs) → shelf_at zs k ≡ shelf_at xs k
 same_shelf xs zs k e h l =
-    let lz : length (shelf_at zs k) ≡ 16945 = length_shelf zs k (omega arith) in
-    ext_get_or 0 (shelf_at zs k) (shelf_at xs k) (lz ∙ sym (length_shelf xs k l))
-    (λ i m. let n : i < 16945 = omega arith in getD_shelf zs k i n ∙ h (k * 16945 + i) (omega arith) (omega arith) ∙ sym (getD_shelf xs k i n))
+    let long = length_shelf zs k (omega arith) in
+    ext_get_or 0 (shelf_at zs k) (shelf_at xs k) (long ∙ sym (length_shelf xs k l))
+    (λ i m. let n : i < 16945 = omega arith in byte_at zs k i n ∙ h (k * 16945 + i) (omega arith) (omega arith) ∙ sym (byte_at xs k i n))
 
 -- ys of length w written over shelf k
 module _ (xs ys : List ℕ) (k w : ℕ) (l : k < shelves_in (length xs)) (wide : w ≡ 16945) (long : length ys ≡ w) where
@@ -65,22 +65,13 @@ pub record ClearedTo (before : List ℕ) (k : ℕ) (after : List ℕ) : Type 0 w
   pub fresh : (j : ℕ) → j < k → Fresh (shelf_at after j)
   pub beyond : (i : ℕ) → k * 16945 ≤ i → get_or after i 0 ≡ get_or before i 0
 
-pub none_cleared : (xs : List ℕ) → ClearedTo xs 0 xs
-none_cleared xs = record { long = refl; fresh = λ j l. absurd (omega arith); beyond = λ i l. refl }
-
 pub one_cleared : (before xs ys : List ℕ) (k w : ℕ) → ClearedTo before k xs → k < shelves_in (length xs) → w ≡ 16945 → Fresh ys → ClearedTo before (k + 1) (put_mid (k * 16945) w xs ys)
 one_cleared before xs ys k w h l wide f =
     let long : length ys ≡ w = f.long ∙ sym wide in
     record {
       long = length_written xs ys k w l wide long ∙ h.long;
-      fresh = λ j m.
-          ⊎_elim
-          (λ lt. subst Fresh (sym (shelf_other xs ys k w l wide long j (omega arith) (omega arith))) (h.fresh j lt))
-          (λ le. let same : k ≡ j = omega arith in subst (λ i. Fresh (shelf_at (put_mid (k * 16945) w xs ys) i)) same (subst Fresh (sym (shelf_written xs ys k w l wide long)) f))
-          (cases_lt j k);
+      fresh = below_more (λ j. Fresh (shelf_at (put_mid (k * 16945) w xs ys) j)) k
+          (λ j lt. subst Fresh (sym (shelf_other xs ys k w l wide long j (omega arith) (omega arith))) (h.fresh j lt))
+          (subst Fresh (sym (shelf_written xs ys k w l wide long)) f);
       beyond = λ i m. past_written xs ys k w l wide long i (omega arith) ∙ h.beyond i (omega arith);
     }
-
-pub all_cleared : (before xs : List ℕ) (k : ℕ) → k ≡ shelves_in (length before) → ClearedTo before k xs → Opened before xs
-all_cleared before xs k e h =
-    record { long = h.long; fresh = λ j l. h.fresh j (omega arith); beyond = λ i l. h.beyond i (omega arith) }

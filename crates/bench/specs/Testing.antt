@@ -30,10 +30,10 @@ pub record HasState (m : Meaning) (xs : List Atom) (n : ℕ) (A : Automaton) (no
   pub stands : Stands (line_at nodes) k tree
   pub runs : Runs m xs n A tree s
 
--- the state of the last node, or the first node whose label is not known
-abbrev pub Roots : Meaning → List Atom → ℕ → Automaton → List Node → Result ℕ ℕ → Type 0
+-- the state of the last node, or the refusal of the first node whose label is not known
+abbrev pub Roots : Meaning → List Atom → ℕ → Automaton → List Node → Result ℕ Refusal → Type 0
 Roots m xs n A nodes (Ok s) = (s < A.size) × ((j : ℕ) → j < length nodes → KnownTo m xs n nodes j) × HasState m xs n A nodes (length nodes - 1) s
-Roots m xs n A nodes (Err i) = FirstNot (KnownTo m xs n nodes) (length nodes) i
+Roots m xs n A nodes (Err e) = (i : ℕ) × (e ≡ UnknownLabel i) × FirstNot (KnownTo m xs n nodes) (length nodes) i
 
 -- whether shelf k accepts the tree that the last node stands for, or the first check that fails
 abbrev pub Tests : Meaning → List Atom → ℕ → List ℕ → ℕ → List Node → Result Bool Refusal → Type 0

@@ -5,7 +5,10 @@ ghost use Rattle.bench.specs.Benches.{shelves_in, AllSound, Opened, Stored};
 use crate::shelf::{SHELF, clear};
 use atoms::table::AtomTable;
 
-// Up to 8 shelves over the atoms of one table, in bytes that are lent.
+// How many shelves a bench has at most.
+const SHELVES: usize = 8;
+
+// Shelves over the atoms of one table, in bytes that are lent.
 #[derive(Drop)]
 pub struct Bench<'a> {
     pub(crate) table: AtomTable,
@@ -42,11 +45,7 @@ impl<'a> Bench<'a> {
     pub fn shelf(&self, k: usize) -> Option<&[u8]>
         ensures { MatchOption result (shelves_in (length self.now.bytes.now) ≤ k) (λ s. Stored self.now.table.count self.now.bytes.now k s.now) }
     {
-        if k < self.shelves() {
-            Some(&self.bytes[k * SHELF..k * SHELF + SHELF])
-        } else {
-            None
-        }
+        self.bytes.chunks_exact(SHELF).take(SHELVES).nth(k)
     }
 }
 
@@ -54,13 +53,14 @@ impl<'a> Bench<'a> {
 fn shelves_in(bytes: &[u8]) -> usize
     ensures { result ≡ shelves_in (length bytes.now) }
 {
-    (bytes.len() / SHELF).min(8)
+    (bytes.len() / SHELF).min(SHELVES)
 }
 
 // A fresh shelf at each place.
 fn clear_all(bytes: &mut [u8])
     ensures { Opened bytes.old bytes.new }
 {
+    // By index: no clause says what the pieces of `chunks_exact_mut` leave in the bytes.
     for k in 0..shelves_in(bytes) {
         clear(&mut bytes[k * SHELF..k * SHELF + SHELF]);
     }

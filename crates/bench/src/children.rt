@@ -2,6 +2,8 @@
 ghost use Rattle.std.specs.Prelude.{◌≡◌, ◌<◌, Decides};
 ghost use Rattle.bench.specs.Combining.{place_at, Inside};
 
+use crate::shelf::{ATOMS, DOUBLE, NONE, SINGLE, STATES};
+
 #[derive(Clone, Copy, Debug, PartialEq, Eq)]
 pub enum Children {
     No,
@@ -17,9 +19,11 @@ impl Children {
         ensures { result ≡ place_at self atom }
     {
         match self {
-            Children::No => 33 + atom,
-            Children::One(p) => 49 + (p as usize * 16 + atom),
-            Children::Two(p, q) => 561 + ((p as usize * 32 + q as usize) * 16 + atom),
+            Children::No => NONE + atom,
+            Children::One(p) => SINGLE + usize::from(p) * ATOMS + atom,
+            Children::Two(p, q) => DOUBLE
+                + (usize::from(p) * STATES + usize::from(q)) * ATOMS
+                + atom,
         }
     }
 

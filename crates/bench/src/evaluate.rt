@@ -1,38 +1,28 @@
 // The state of a tree of labels.
 ghost use Rattle.std.specs.Prelude.{◌≡◌, ◌≤◌, length};
-ghost use Rattle.trees.specs.Automata.{Complete};
-ghost use Rattle.trees.specs.Trees.{letters};
 ghost use Rattle.bench.specs.Nodes.{Counted, AllShaped};
 ghost use Rattle.bench.specs.Shelves.{automaton};
 ghost use Rattle.bench.specs.Testing.{Roots};
 
 use crate::lookup::atom_of;
-use crate::node::Node;
-use crate::shelf;
-use atoms::table::AtomTable;
+use crate::node::{NODES, Node};
+use crate::refusal::Refusal;
+use crate::shelf::Shelf;
 use labels::kind::LabelKind;
 
-// The state of the last node, or the number of the first node whose label has no atom in the table.
-pub fn root_state<K: LabelKind>(
-    kind: &K,
-    table: &AtomTable,
-    bytes: &[u8],
-    nodes: &[Node],
-) -> Result<u8, usize>
-    requires long { length bytes.now ≡ 16945 }
-    requires few { (automaton bytes.now).size ≤ 32 }
-    requires complete { Complete (letters table.now.count) (automaton bytes.now) }
-    requires counted { Counted nodes.now }
-    requires shaped { AllShaped nodes.now }
-    ensures { Roots (K.LabelKind.book kind.now).meaning table.now.atoms table.now.count (automaton bytes.now) nodes.now result }
-{
-    let mut states = [0u8; 1024];
-    for (i, node) in nodes.iter().enumerate() {
-        let Some(atom) = atom_of(kind, table, node.label) else {
-            return Err(i);
-        };
-        let children = node.over(&states);
-        states[i] = shelf::state(bytes, children, atom);
+impl Shelf<'_> {
+    // The state of the last node, or the refusal of the first node whose label has no atom in the table.
+    pub fn root_state<K: LabelKind>(&self, kind: &K, nodes: &[Node]) -> Result<u8, Refusal>
+        requires counted { Counted nodes.now }
+        requires shaped { AllShaped nodes.now }
+        ensures { Roots (K.LabelKind.book kind.now).meaning self.now.table.now.atoms self.now.table.now.count (automaton self.now.bytes.now) nodes.now result }
+    {
+        // A bench takes no memory but what it is lent, so there is a place for each node that a tree may have.
+        let mut states = [0; NODES];
+        for (i, node) in nodes.iter().enumerate() {
+            let atom = atom_of(kind, self.table, node.label).ok_or(Refusal::UnknownLabel(i))?;
+            states[i] = self.next(node.over(&states), atom);
+        }
+        Ok(states[nodes.len() - 1])
     }
-    Ok(states[nodes.len() - 1])
 }

@@ -23,26 +23,12 @@ pub fn atom_of<K: LabelKind>(kind: &K, table: &AtomTable, x: u64) -> Option<usiz
 fn guards_of<K: LabelKind>(kind: &K, x: u64) -> GuardSet
     ensures { (g : ℕ) → has result.0 g ≡ (K.LabelKind.book kind.now).meaning.holds g x }
 {
-    kind.lawful();
-    let mut set = GuardSet::none();
-    for g in 0..32 {
-        if kind.holds(g, x) {
-            set = set.with(g);
-        }
-    }
-    set
+    GuardSet::from_fn(|g| kind.holds(g, x))
 }
 
 // The place of the atom with exactly these guards.
 fn find(table: &AtomTable, set: GuardSet) -> Option<usize>
     ensures { MatchOption result ((k : ℕ) → k < table.now.count → set_at table.now.atoms k ≢ set.0) (λ k. (k < table.now.count) × (set_at table.now.atoms k ≡ set.0)) }
 {
-    for k in 0..table.count() {
-        if let Some(atom) = table.atom(k)
-            && atom.guards.0 == set.0
-        {
-            return Some(k);
-        }
-    }
-    None
+    table.as_slice().iter().position(|atom| atom.guards == set)
 }

@@ -3,10 +3,8 @@ ghost use Rattle.std.specs.Prelude.{length};
 ghost use Rattle.bench.specs.Testing.{Tests};
 
 use crate::bench::Bench;
-use crate::evaluate::root_state;
-use crate::node::{Node, countable, first_misshapen};
+use crate::node::{Node, check_count, check_shape};
 use crate::refusal::Refusal;
-use crate::shelf::accepts;
 use labels::kind::LabelKind;
 
 impl Bench<'_> {
@@ -20,18 +18,10 @@ impl Bench<'_> {
     ) -> Result<bool, Refusal>
         ensures { Tests (K.LabelKind.book kind.now).meaning self.now.table.atoms self.now.table.count self.now.bytes.now shelf nodes.now result }
     {
-        let Some(bytes) = self.shelf(shelf) else {
-            return Err(Refusal::NoSuchShelf);
-        };
-        if !countable(nodes) {
-            return Err(Refusal::NodeCount);
-        }
-        if let Some(i) = first_misshapen(nodes) {
-            return Err(Refusal::NodeOutOfShape(i));
-        }
-        match root_state(kind, &self.table, bytes, nodes) {
-            Ok(state) => Ok(accepts(bytes, state)),
-            Err(i) => Err(Refusal::UnknownLabel(i)),
-        }
+        let shelf = self.read(shelf).ok_or(Refusal::NoSuchShelf)?;
+        check_count(nodes)?;
+        check_shape(nodes)?;
+        let state = shelf.root_state(kind, nodes)?;
+        Ok(shelf.accepts(state))
     }
 }

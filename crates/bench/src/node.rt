@@ -1,15 +1,20 @@
 // A tree as a list of nodes, the root last.
-ghost use Rattle.std.specs.Prelude.{◌≡◌, length, Decides, MatchOption, slice_index};
+ghost use Rattle.std.specs.Prelude.{◌≡◌, ℕ, length, Decides, MatchResult, slice_index};
+ghost use Rattle.bench.specs.declared.refusal.Refusal.TheVariants.{NodeCount, NodeOutOfShape};
 ghost use Rattle.trees.specs.Rounds.{Below};
 ghost use Rattle.bench.specs.Combining.{over};
 ghost use Rattle.bench.specs.Nodes.{line, Counted, Shaped, AllShaped, ShapedTo, FirstNot};
 
 use crate::children::Children;
+use crate::refusal::Refusal;
+
+// How many nodes a tree may have.
+pub(crate) const NODES: usize = 1024;
 
 #[derive(Clone, Copy, Debug, PartialEq, Eq)]
 pub struct Node {
     pub label: u64,
-    // how many children it has: 0, 1 or 2
+    // how many children it has: 0, 1 or 2; a host may lend any number, and one above 2 is refused
     pub children: u8,
     // numbers of earlier nodes; that of an absent child is not read
     pub left: u16,
@@ -23,8 +28,8 @@ impl Node {
     {
         match self.children {
             0 => true,
-            1 => (self.left as usize) < number,
-            2 => (self.left as usize) < number && (self.right as usize) < number,
+            1 => usize::from(self.left) < number,
+            2 => usize::from(self.left) < number && usize::from(self.right) < number,
             _ => false,
         }
     }
@@ -34,29 +39,32 @@ impl Node {
         requires { Below (length states.now) (line self) }
         ensures { result ≡ over (λ k. slice_index states.now k) (line self) }
     {
+        let state = |number: u16| states[usize::from(number)];
         match self.children {
             0 => Children::No,
-            1 => Children::One(states[self.left as usize]),
-            _ => Children::Two(states[self.left as usize], states[self.right as usize]),
+            1 => Children::One(state(self.left)),
+            _ => Children::Two(state(self.left), state(self.right)),
         }
     }
 }
 
-// Whether there are 1 to 1,024 nodes.
-pub(crate) fn countable(nodes: &[Node]) -> bool
-    ensures { Decides result (Counted nodes.now) }
+// There are 1 to 1,024 nodes.
+pub(crate) fn check_count(nodes: &[Node]) -> Result<(), Refusal>
+    ensures { MatchResult result (λ _. Counted nodes.now) (λ e. (e ≡ NodeCount) × (Counted nodes.now → ⊥)) }
 {
-    !nodes.is_empty() && nodes.len() <= 1024
+    (1..=NODES)
+        .contains(&nodes.len())
+        .then_some(())
+        .ok_or(Refusal::NodeCount)
 }
 
-// The number of the first node that is out of shape.
-pub(crate) fn first_misshapen(nodes: &[Node]) -> Option<usize>
-    ensures { MatchOption result (AllShaped nodes.now) (λ i. FirstNot (ShapedTo nodes.now) (length nodes.now) i) }
+// Every node is in shape.
+pub(crate) fn check_shape(nodes: &[Node]) -> Result<(), Refusal>
+    ensures { MatchResult result (λ _. AllShaped nodes.now) (λ e. (i : ℕ) × (e ≡ NodeOutOfShape i) × FirstNot (ShapedTo nodes.now) (length nodes.now) i) }
 {
-    for (i, node) in nodes.iter().enumerate() {
-        if !node.in_shape(i) {
-            return Some(i);
-        }
-    }
-    None
+    nodes
+        .iter()
+        .enumerate()
+        .position(|(i, node)| !node.in_shape(i))
+        .map_or(Ok(()), |i| Err(Refusal::NodeOutOfShape(i)))
 }

@@ -23,5 +23,5 @@ fn wipe(cells: &mut [u16])
     ensures rest { (k : ℕ) → 32768 ≤ k → slice_index cells.new k ≡ slice_index cells.old k }
 {
     let used = cells.len().min(CELLS);
-    cells[0..used].fill(0);
+    cells[..used].fill(0);
 }

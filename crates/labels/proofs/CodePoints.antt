@@ -1,33 +1,14 @@
 -- Code points as a kind: its laws, the search for its least label, and one range more.
-use Rattle.std.proofs.Common.{◌≡◌, ℕ, suc, ◌+◌, ◌<◌, ◌≤◌, max, Bool, true, false, ◌&&◌, ◌||◌, eqb, leb, List, [], ◌∷◌, ◌++◌, length, Some, None, Option, sym, refl, ap, ◌∙◌, subst, ⊎_elim, arith}
+use Rattle.std.proofs.Common.{◌≡◌, ℕ, ◌+◌, ◌<◌, ◌≤◌, max, Bool, true, false, ◌&&◌, ◌||◌, eqb, List, [], ◌∷◌, ◌++◌, length, Some, None, Option, sym, refl, ap, ◌∙◌, subst, ⊎_elim, arith}
 use Rattle.std.proofs.lemmas.List.{get_or_push, get_or_append_left, length_push}
-use Rattle.std.proofs.lemmas.Bool.{both_ways, cases_lt, leb-true, and_parts, or_cases, eqb-true}
+use Rattle.std.proofs.lemmas.Bool.{cases_lt}
 use Rattle.labels.specs.Adding.{Joins}
 use Rattle.labels.specs.Edges.{AtMost, Fitting, Tried}
-use Rattle.labels.specs.Meaning.{Meaning, Lawful, Fits, IsLeast}
+use Rattle.labels.specs.Laws.{RangesBelow}
+use Rattle.labels.specs.Meaning.{Meaning, Fits, IsLeast}
 use Rattle.labels.specs.Ranges.{code_label, code_meaning, covered, in_range, given_at, nothing, past_surrogates}
 use Rattle.labels.specs.declared.range.Given.{Given}
 use Rattle.labels.proofs.Covering.{edge_all, reaches, covered_push}
-
--- only guards below n have ranges
-abbrev pub Known : List Given → ℕ → Type 0
-Known rs n = (k : ℕ) → k < length rs → (given_at rs k).guard < n
-
-covered_known : (rs : List Given) (n : ℕ) → Known rs n → (g x : ℕ) → covered rs g x ≡ true → g < n
-covered_known [] n known g x h = absurd (both_ways false refl h)
-covered_known (r ∷ rs) n known g x h =
-    ⊎_elim
-    (λ here. let same = eqb-true g r.guard (and_parts (eqb g r.guard) (in_range r.range x) here).0 in let low = known 0 (omega arith) in omega arith)
-    (λ later. covered_known rs n (λ k l. known (suc k) (omega arith)) g x later)
-    (or_cases (eqb g r.guard && in_range r.range x) (covered rs g x) h)
-
-pub code_lawful : (rs : List Given) (n : ℕ) → n ≤ 32 → Known rs n → Lawful (code_meaning rs n)
-code_lawful rs n few known = record {
-  below = λ x h. let top = leb-true x 0x10FFFF (and_parts (leb x 0x10FFFF) _ h).0 in omega arith;
-  some = (0, refl);
-  few = few;
-  inside = λ g x h. let parts = and_parts (code_label x) (covered rs g x) h in (covered_known rs n known g x parts.1, parts.0);
-}
 
 -- ---- the least label
 
@@ -83,7 +64,7 @@ all_searched rs n ins outs i best done s =
 
 -- ---- one range more
 
-pub push_known : (rs : List Given) (r : Given) (n m : ℕ) → m ≡ max n (r.guard + 1) → Known rs n → Known (rs ++ r ∷ []) m
+pub push_known : (rs : List Given) (r : Given) (n m : ℕ) → m ≡ max n (r.guard + 1) → RangesBelow rs n → RangesBelow (rs ++ r ∷ []) m
 push_known rs r n m most known k h =
     ⊎_elim
     (λ lt. let old = known k lt in let same = ap (λ (s : Given). s.guard) (get_or_append_left rs (r ∷ []) nothing k lt) in omega arith)

@@ -4,14 +4,11 @@ use Rattle.std.proofs.lemmas.List.{get_or_past, get_or-replicate, length-replica
 use Rattle.std.proofs.lemmas.Bool.{ltb-true, lt-ltb, eqb-true, and_parts, or_cases, both_ways, cases_lt, cases_eq, eq-eqb, ne_eqb, and_right}
 use Rattle.labels.proofs.Bits.{has_none}
 use Rattle.labels.specs.Adding.{Joins}
+use Rattle.labels.specs.Laws.{SetsBelow}
 use Rattle.labels.specs.Meaning.{Meaning, Fits, IsLeast, Fresh}
 use Rattle.labels.specs.Sets.{has, Between}
 use Rattle.labels.specs.Tables.{empty, set_at, table_meaning, FirstFit, Marked}
 use Rattle.labels.specs.declared.set.GuardSet.{GuardSet}
-
--- only guards below n stand in the sets
-abbrev pub Known : List GuardSet → ℕ → Type 0
-Known sets n = (x g : ℕ) → n ≤ g → has (set_at sets x) g ≡ true → ⊥
 
 past_empty : (sets : List GuardSet) (x g : ℕ) → length sets ≤ x → has (set_at sets x) g ≡ false
 past_empty sets x g past = ap (λ (s : GuardSet). has s.0 g) (get_or_past sets x empty past) ∙ has_none g
@@ -57,7 +54,7 @@ module _ (sets marked : List GuardSet) (n g k : ℕ) (vs : ℕ → Bool) (mark :
         ∙ joined_at (ltb x (length sets)) (has (set_at sets x) h) (eqb h g) (vs x) (has (set_at marked x) h) (λ e. mark.at x h (ltb-true x (length sets) e));
   }
 
-  pub marked_known : Known sets n → Known marked k
+  pub marked_known : SetsBelow sets n → SetsBelow marked k
   marked_known known x h up e =
       ⊎_elim
       (λ under.
@@ -90,7 +87,7 @@ module _ (sets : List GuardSet) (n t g m : ℕ) (s : GuardSet) (under : t < leng
   pub one_joins : Joins (table_meaning sets n) g (λ x. eqb x t) (table_meaning (set sets t s) m)
   one_joins = marked_joins sets (set sets t s) n g m (λ x. eqb x t) (one_marked sets t g s under small put) most
 
-  pub one_known : Known sets n → Known (set sets t s) m
+  pub one_known : SetsBelow sets n → SetsBelow (set sets t s) m
   one_known = marked_known sets (set sets t s) n g m (λ x. eqb x t) (one_marked sets t g s under small put) most
 
 -- no guard yet
@@ -101,7 +98,7 @@ none_at n x g =
     (λ past. past_empty (replicate n empty) x g (omega (arith, length-replicate n empty)))
     (cases_lt x n)
 
-pub fresh_known : (n : ℕ) → Known (replicate n empty) 0
+pub fresh_known : (n : ℕ) → SetsBelow (replicate n empty) 0
 fresh_known n x g up e = both_ways (has (set_at (replicate n empty) x) g) (none_at n x g) e
 
 pub fresh_table : (n : ℕ) → Fresh (table_meaning (replicate n empty) 0) (λ x. ltb x n)

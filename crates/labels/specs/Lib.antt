@@ -6,3 +6,4 @@ pub mod Patterns
 pub mod Masks
 pub mod Ranges
 pub mod Edges
+pub mod Laws

@@ -1,12 +1,14 @@
 // Code points: labels 0 to 10FFFF hex without the surrogates D800 to DFFF; a guard is given by ranges.
-ghost use Rattle.std.specs.Prelude.{◌≡◌, ℕ, ◌+◌, ◌<◌, ◌≤◌, length, IfOk, vec_len, vec_capacity, Decides, nat_le};
-ghost use Rattle.labels.specs.Edges.{AtMost, Tried};
-ghost use Rattle.labels.specs.Meaning.{Fresh, IsLeast};
-ghost use Rattle.labels.specs.Ranges.{Told, code_label, code_meaning, given_at, in_range, range_formed};
+ghost use Rattle.std.specs.Prelude.{◌≡◌, ℕ, ◌+◌, ◌<◌, ◌≤◌, length, IfOk, vec_len, vec_capacity, nat_le};
+ghost use Rattle.labels.specs.Edges.{Tried};
+ghost use Rattle.labels.specs.Meaning.{Fresh};
+ghost use Rattle.labels.specs.Laws.{code_lawful, code_narrow};
+ghost use Rattle.labels.specs.Ranges.{code_label, code_meaning, covered, given_at, in_range, range_formed};
+ghost use Rattle.labels.specs.Sets.{has};
 
 use crate::kind::{AddFault, LabelKind, NarrowKind};
 use crate::range::{Given, Range};
-use crate::ranges::{guards_at, is_surrogate, skip_surrogates};
+use crate::ranges::{is_surrogate, skip_surrogates};
 use crate::set::GuardSet;
 use std::alloc::{AllocError, Global};
 
@@ -34,6 +36,19 @@ impl CodePoints {
         let ranges = Vec::with_capacity(heap, 64)?;
         Ok(CodePoints { ranges, guards: 0 })
     }
+
+    // The guards with a range that has x.
+    fn guards_at(&self, x: u32) -> GuardSet
+        ensures { (g : ℕ) → has result.0 g ≡ covered self.now.ranges.items g x }
+    {
+        let mut set = GuardSet::none();
+        for given in &self.ranges {
+            if given.range.has(x) {
+                set = set.with(given.guard);
+            }
+        }
+        set
+    }
 }
 
 impl LabelKind for CodePoints {
@@ -41,27 +56,36 @@ impl LabelKind for CodePoints {
 
     ghost book = { λ k. record { meaning = code_meaning k.ranges.items k.guards; formed = range_formed; labels = in_range; full = λ gs _. nat_le 64 (vec_len k.ranges + length gs) } };
 
-    fn lawful(&self) {}
-
     fn count(&self) -> u32 {
         self.guards
     }
 
     fn label(&self, x: u64) -> bool {
-        x <= LAST as u64 && !is_surrogate(x as u32)
+        x <= u64::from(LAST) && !is_surrogate(x as u32)
     }
 
     fn holds(&self, guard: u32, x: u64) -> bool {
-        x <= LAST as u64
-            && !is_surrogate(x as u32)
-            && guards_at(&self.ranges, x as u32).contains(guard)
+        self.label(x) && self.guards_at(x as u32).contains(guard)
     }
 
+    // What fits is 0, or lies where a range begins, or where one has ended: elsewhere nothing changes.
     fn least(&self, yes: GuardSet, no: GuardSet) -> Option<u64> {
-        match least_edge(&self.ranges, yes, no) {
-            Some(x) => Some(x as u64),
-            None => None,
+        let lesser = |best: Option<u32>, x: u32|
+            ensures { Tried (code_meaning self.entry.now.ranges.items self.entry.now.guards) yes.0 no.0 x best result }
+        {
+            let less = best.is_none_or(|known| x < known);
+            if less && self.label(u64::from(x)) && self.guards_at(x).fits(yes, no) {
+                Some(x)
+            } else {
+                best
+            }
+        };
+        let mut best = lesser(None, 0);
+        for given in &self.ranges {
+            best = lesser(best, skip_surrogates(given.range.low));
+            best = lesser(best, skip_surrogates(given.range.high + 1));
         }
+        best.map(u64::from)
     }
 
     fn add(&mut self, guard: u32, value: &Range) -> Result<(), AddFault> {
@@ -79,55 +103,14 @@ impl LabelKind for CodePoints {
         self.guards = self.guards.max(guard + 1);
         Ok(())
     }
+
+    ghost lawful = { λ k. code_lawful k.ranges.items k.guards k.few k.known };
 }
 
 impl NarrowKind for CodePoints {
     fn largest(&self) -> u32 {
         LAST
     }
-}
 
-// The least label that fits. It is 0, or lies where a range begins, or where one has ended: elsewhere nothing changes.
-fn least_edge(ranges: &[Given], yes: GuardSet, no: GuardSet) -> Option<u32>
-    requires { Told ranges.now }
-    ensures { (n : ℕ) → IsLeast (code_meaning ranges.now n) yes.0 no.0 result }
-{
-    let mut best = try_label(ranges, 0, yes, no, None);
-    for given in ranges {
-        let begin = skip_surrogates(given.range.low);
-        best = try_label(ranges, begin, yes, no, best);
-        let end = skip_surrogates(given.range.high + 1);
-        best = try_label(ranges, end, yes, no, best);
-    }
-    best
-}
-
-// The lesser of the best label so far and x, if that is a label and fits.
-fn try_label(
-    ranges: &[Given],
-    x: u32,
-    yes: GuardSet,
-    no: GuardSet,
-    best: Option<u32>,
-) -> Option<u32>
-    requires { Told ranges.now }
-    ensures { (n : ℕ) → Tried (code_meaning ranges.now n) yes.0 no.0 x best result }
-{
-    if at_most(best, x) {
-        return best;
-    }
-    if x <= LAST && !is_surrogate(x) && guards_at(ranges, x).fits(yes, no) {
-        return Some(x);
-    }
-    best
-}
-
-// Something was found that is not above x.
-fn at_most(best: Option<u32>, x: u32) -> bool
-    ensures { Decides result (AtMost best x) }
-{
-    match best {
-        Some(known) => known <= x,
-        None => false,
-    }
+    ghost narrow = { λ k. code_narrow };
 }

@@ -1,5 +1,5 @@
 // Sets of guard numbers 0 to 31.
-ghost use Rattle.std.specs.Prelude.{◌≡◌, ℕ, min, true, false, not, ◌&&◌, ◌||◌, Decides, ◌==◌, nat_lt};
+ghost use Rattle.std.specs.Prelude.{◌≡◌, ℕ, ◌<◌, ◌≤◌, min, true, false, not, ◌&&◌, ◌||◌, Decides, ◌==◌, nat_lt};
 ghost use Rattle.labels.specs.Sets.{has, Between};
 
 // Guard g is in the set where bit g is 1.
@@ -51,16 +51,25 @@ impl GuardSet {
         self.includes(yes) && self.excludes(no)
     }
 
+    // The guards 0 to 31 for which `f` answers yes.
+    pub fn from_fn<F: Fn(u32) -> bool>(f: F) -> GuardSet
+        requires { (g : ℕ) → g < 32 → F.pre f g }
+        ensures chosen { (g : ℕ) → g < 32 → F.post f g (has result.0 g) }
+        ensures small { (g : ℕ) → 32 ≤ g → has result.0 g ≡ false }
+    {
+        let mut set = GuardSet::none();
+        for g in 0..32 {
+            if f(g) {
+                set = set.with(g);
+            }
+        }
+        set
+    }
+
     // The guards below `count` that are not here.
     pub fn others(self, count: u32) -> GuardSet
         ensures { (g : ℕ) → has result.0 g ≡ (nat_lt g (min count 32) && not (has self.0 g)) }
     {
-        let mut rest = GuardSet::none();
-        for g in 0..count.min(32) {
-            if !self.contains(g) {
-                rest = rest.with(g);
-            }
-        }
-        rest
+        GuardSet::from_fn(|g| g < count && !self.contains(g))
     }
 }

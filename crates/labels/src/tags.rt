@@ -1,7 +1,9 @@
 // Tags: labels 0 to 63; a guard is given by single tags.
 ghost use Rattle.std.specs.Prelude.{◌≡◌, ℕ, ◌≤◌, true, false, ltb, length, ◌==◌, ◌≢◌, nat_lt};
+ghost use Rattle.std.proofs.Common.{rules};
 ghost use Rattle.labels.specs.Meaning.{Fresh};
 ghost use Rattle.labels.specs.Sets.{has};
+ghost use Rattle.labels.specs.Laws.{table_lawful, table_narrow};
 ghost use Rattle.labels.specs.Tables.{set_at, table_meaning};
 
 use crate::kind::{AddFault, LabelKind, NarrowKind};
@@ -37,8 +39,6 @@ impl LabelKind for Tags {
 
     ghost book = { λ k. record { meaning = table_meaning k.sets k.guards; formed = λ v. nat_lt v.0 64; labels = λ v x. (x == v.0); full = λ _ _. false } };
 
-    fn lawful(&self) {}
-
     fn count(&self) -> u32 {
         self.guards
     }
@@ -71,10 +71,14 @@ impl LabelKind for Tags {
         self.guards = self.guards.max(guard + 1);
         Ok(())
     }
+
+    ghost lawful = { λ k. table_lawful k.sets k.guards k.long (Prim.search rules) (Prim.search rules) k.few k.known };
 }
 
 impl NarrowKind for Tags {
     fn largest(&self) -> u32 {
         63
     }
+
+    ghost narrow = { λ k x. table_narrow k.sets k.guards k.long (Prim.search rules) x };
 }

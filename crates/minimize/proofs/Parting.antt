@@ -1,5 +1,5 @@
 -- One class more: what stays true when a class is parted.
-use Rattle.std.proofs.Common.{◌≡◌, ℕ, ◌+◌, ◌<◌, ◌≤◌, cond, ltb, List, length, set, sym, ap, ◌∙◌, subst, inl, inr, ⊎_elim, arith, length-set}
+use Rattle.std.proofs.Common.{◌≡◌, ℕ, ◌+◌, ◌<◌, cond, ltb, List, length, set, sym, ap, ◌∙◌, subst, inl, inr, ⊎_elim, arith, length-set}
 use Rattle.std.proofs.lemmas.Bool.{cases_eq, cond_both, cond-true, lt-ltb, ltb-true}
 use Rattle.trees.specs.Automata.{Automaton, Complete}
 use Rattle.trees.specs.Classes.{ToldApart, Tells, accept, single, left, right, Refines, Separate}
@@ -77,9 +77,9 @@ module _ (n : ℕ) (A : Automaton) (classes reps : List ℕ) (count : ℕ) (f : 
         }
 
     -- one class more, and different classes are still told apart
-    pub parted_classes : (chosen : List ℕ) → chosen ≡ set reps count f.state → Complete (atoms_below n) A → Separate (atoms_below n) A (at classes) → Partition A finer chosen (count + 1) × Separate (atoms_below n) A (at finer)
-    parted_classes chosen is complete separate = (
-      rw is parted_partition,
+    pub parted_classes : Complete (atoms_below n) A → Separate (atoms_below n) A (at classes) → Partition A finer (set reps count f.state) (count + 1) × Separate (atoms_below n) A (at finer)
+    parted_classes complete separate = (
+      parted_partition,
       refined_classes (atoms_below n) A (at classes) (at finer) complete separate (parted_refines n A classes f.test (at reps (at classes f.state)) count finer splits.valid parted),
     )
 
@@ -111,19 +111,3 @@ module _ (n : ℕ) (A : Automaton) (classes reps : List ℕ) (count : ℕ) (f : 
               subst (λ s. ToldApart (atoms_below n) A s (state j)) (sym (cond-true (ltb i 32) (at reps i) f.state (lt-ltb i 32 (omega arith))))
               (cond_both (ltb j 32) (at reps j) f.state (ToldApart (atoms_below n) A (at reps i)) (λ e. reps_apart i j hij (omega (arith, ltb-true j 32 e))) (λ e. found_apart i (omega arith)));
         }
-
--- at first all states are in one class
-pub one_class : (n : ℕ) (A : Automaton) (classes reps : List ℕ) → 1 ≤ A.size → length classes ≡ A.size → length reps ≡ 32 → ((p : ℕ) → p < A.size → at classes p ≡ 0) → at reps 0 ≡ 0 → Partition A classes reps 1 × Separate (atoms_below n) A (at classes)
-one_class n A classes reps some long places zero first =
-    let in-range : (i : ℕ) → i < 1 → at reps i ≡ 0 = λ i h. ap (at reps) (let e : i ≡ 0 = omega arith in e) ∙ first in (
-      record {
-        states = long;
-        places = places;
-        some = omega arith;
-        few = omega arith;
-        below = λ p h. omega (arith, zero p h);
-        within = λ i h. omega (arith, in-range i h);
-        own = λ i h. omega (arith, zero (at reps i) (omega (arith, in-range i h)));
-      },
-      λ p q hp hq apart. absurd (apart (zero p hp ∙ sym (zero q hq))),
-    )

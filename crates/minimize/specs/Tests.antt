@@ -1,5 +1,5 @@
 -- Tests of states, and what they say of states in one class.
-use Rattle.std.specs.Prelude.{◌≡◌, ℕ, ◌<◌, ◌≤◌, cond, List, Option, MatchOption, slice_index}
+use Rattle.std.specs.Prelude.{◌≡◌, ℕ, ◌<◌, cond, List, Option, MatchOption, slice_index}
 use Rattle.trees.specs.Automata.{Automaton}
 use Rattle.trees.specs.Classes.{Stable}
 use Rattle.minimize.specs.Automata.{atoms_below}
@@ -61,9 +61,9 @@ pub record Near (count p n : ℕ) (A : Automaton) (classes reps : List ℕ) : Ty
   pub single : SingleAlike p n A classes reps
   pub left : LeftAlike count p n A classes reps
 
--- the fact holds of the states from low on, below high
-abbrev pub Between : ℕ → ℕ → (ℕ → Fact) → Fact
-Between low high P n A classes reps = (p : ℕ) → low ≤ p → p < high → P p n A classes reps
+-- the fact holds of every state
+abbrev pub Everywhere : (ℕ → Fact) → Fact
+Everywhere P n A classes reps = (p : ℕ) → p < A.size → P p n A classes reps
 
 abbrev pub AllStable : Fact
 AllStable n A classes reps = Stable (atoms_below n) A (at classes)

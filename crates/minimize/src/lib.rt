@@ -3,8 +3,9 @@
 #![tactic(auto)]
 
 pub mod automaton;
-mod classes;
+//mod classes;
 pub mod fault;
+mod partitioned;
 pub mod refine;
 mod row;
 mod scan;

@@ -3,10 +3,9 @@ ghost use Rattle.std.specs.Prelude.{◌≡◌, length};
 ghost use Rattle.minimize.specs.Minimized.{Minimized};
 
 use crate::automaton::TreeAutomaton;
-use crate::classes::Classes;
 use crate::fault::TooManyClasses;
-use crate::scan::find_split;
-use crate::split::split;
+use crate::partitioned::Partitioned;
+use crate::test::Test;
 
 // There are this many classes at most.
 const MOST: usize = 32;
@@ -19,35 +18,36 @@ pub fn minimize<M: TreeAutomaton>(
     next: &mut [u16],
     reps: &mut [u16],
 ) -> Result<usize, TooManyClasses>
-    requires sound { M.TreeAutomaton.sound m.now }
     requires classes_long { length classes.old ≡ (M.TreeAutomaton.meaning m.now).size }
     requires next_long { length next.old ≡ (M.TreeAutomaton.meaning m.now).size }
     requires reps_long { length reps.old ≡ 32 }
     ensures { Minimized (M.TreeAutomaton.letters m.now) (M.TreeAutomaton.meaning m.now) result classes.new reps.new }
 {
-    m.fit();
     classes.fill(0);
     reps[0] = 0;
     let mut count = 1;
     // where the last split was found
     let (mut state, mut row) = (0, 0);
-    while let Some(found) = find_split(
-        m,
-        Classes {
-            of: classes,
+    loop {
+        let whole = Partitioned {
+            machine: m,
+            classes,
             reps,
             count,
-        },
-        state,
-        row,
-    ) {
+        };
+        let Some(found) = whole.find_split(state, row) else {
+            return Ok(count);
+        };
         if count == MOST {
             return Err(TooManyClasses);
         }
-        split(m, classes, next, reps, count, found);
-        count += 1;
         state = found.state;
-        row = found.test.row_or(row);
+        if let Test::Right(x, _) = found.test {
+            row = x;
+        }
+        whole.part(found, next);
+        classes.copy_from_slice(next);
+        reps[count] = found.state as u16;
+        count += 1;
     }
-    Ok(count)
 }

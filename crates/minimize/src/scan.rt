@@ -1,181 +1,133 @@
 // Looks for a state that answers a test otherwise than the representative of its class.
-ghost use Rattle.std.specs.Prelude.{◌<◌, ◌≤◌, Decides};
-ghost use Rattle.minimize.specs.Partitions.{Partition};
-ghost use Rattle.minimize.specs.Tests.{Alike, AllStable, Between, LeftAlike, Looked, Near, RightAlike, SingleAlike, Valid};
+ghost use Rattle.std.specs.Prelude.{ℕ, ◌<◌, ◌≤◌, MatchOption, None, Some};
+ghost use Rattle.minimize.specs.Tests.{AllStable, Everywhere, LeftAlike, Looked, Near, RightAlike, SingleAlike};
 
 use crate::automaton::TreeAutomaton;
-use crate::classes::Classes;
-use crate::row::{beside_representatives, first_difference};
-use crate::test::{Found, Test, answer};
+use crate::partitioned::Partitioned;
+use crate::test::{Found, Test};
 
-// Whether p and its representative answer the test alike.
-fn alike<M: TreeAutomaton>(m: &M, classes: Classes<'_>, test: Test, p: usize) -> bool
-    requires sound { M.TreeAutomaton.sound m.now }
-    requires partition { Partition (M.TreeAutomaton.meaning m.now) classes.of.now classes.reps.now classes.count }
-    requires state { p < (M.TreeAutomaton.meaning m.now).size }
-    requires valid { Valid (M.TreeAutomaton.letters m.now) (M.TreeAutomaton.meaning m.now) test }
-    ensures { Decides result (Alike (M.TreeAutomaton.meaning m.now) classes.entry.of.now classes.entry.reps.now test p) }
-{
-    let r = classes.representative(p);
-    answer(m, classes.of, test, p) == answer(m, classes.of, test, r)
-}
-
-// Looks at p as the one child.
-fn single_of<M: TreeAutomaton>(m: &M, classes: Classes<'_>, p: usize) -> Option<Found>
-    requires sound { M.TreeAutomaton.sound m.now }
-    requires partition { Partition (M.TreeAutomaton.meaning m.now) classes.of.now classes.reps.now classes.count }
-    requires state { p < (M.TreeAutomaton.meaning m.now).size }
-    ensures { Looked (SingleAlike p) (M.TreeAutomaton.letters m.now) (M.TreeAutomaton.meaning m.now) classes.entry.of.now classes.entry.reps.now result }
-{
-    for a in 0..m.atoms() {
-        let test = Test::Single(a);
-        if !alike(m, classes, test, p) {
-            return Some(Found { state: p, test });
-        }
-    }
-    None
-}
-
-// Looks at p on the left of representatives.
-fn left_of<M: TreeAutomaton>(m: &M, classes: Classes<'_>, p: usize) -> Option<Found>
-    requires sound { M.TreeAutomaton.sound m.now }
-    requires partition { Partition (M.TreeAutomaton.meaning m.now) classes.of.now classes.reps.now classes.count }
-    requires state { p < (M.TreeAutomaton.meaning m.now).size }
-    ensures { Looked (LeftAlike classes.entry.count p) (M.TreeAutomaton.letters m.now) (M.TreeAutomaton.meaning m.now) classes.entry.of.now classes.entry.reps.now result }
-{
-    m.fit();
-    let row = m.row(p);
-    let r = classes.representative(p);
-    let table = beside_representatives(m, classes, r, &m.row(r));
-    for i in 0..classes.count {
-        let y = classes.reps[i] as usize;
-        if let Some(a) = first_difference(m, classes.of, p, &row, y, &table, i * 16) {
-            let test = Test::Left(y, a);
-            return Some(Found { state: p, test });
-        }
-    }
-    None
-}
-
-// Looks at all states on the right of x.
-fn right_of<M: TreeAutomaton>(m: &M, classes: Classes<'_>, x: usize) -> Option<Found>
-    requires sound { M.TreeAutomaton.sound m.now }
-    requires partition { Partition (M.TreeAutomaton.meaning m.now) classes.of.now classes.reps.now classes.count }
-    requires state { x < (M.TreeAutomaton.meaning m.now).size }
-    ensures { Looked (RightAlike x) (M.TreeAutomaton.letters m.now) (M.TreeAutomaton.meaning m.now) classes.entry.of.now classes.entry.reps.now result }
-{
-    m.fit();
-    let row = m.row(x);
-    let table = beside_representatives(m, classes, x, &row);
-    for y in 0..m.size() {
-        let start = classes.of[y] as usize * 16;
-        if let Some(a) = first_difference(m, classes.of, x, &row, y, &table, start) {
-            let test = Test::Right(x, a);
-            return Some(Found { state: y, test });
-        }
-    }
-    None
-}
-
-// Looks at p: whether it accepts, as the one child, and on the left of representatives.
-fn near_of<M: TreeAutomaton>(m: &M, classes: Classes<'_>, p: usize) -> Option<Found>
-    requires sound { M.TreeAutomaton.sound m.now }
-    requires partition { Partition (M.TreeAutomaton.meaning m.now) classes.of.now classes.reps.now classes.count }
-    requires state { p < (M.TreeAutomaton.meaning m.now).size }
-    ensures { Looked (Near classes.entry.count p) (M.TreeAutomaton.letters m.now) (M.TreeAutomaton.meaning m.now) classes.entry.of.now classes.entry.reps.now result }
-{
-    let test = Test::Accepts;
-    if !alike(m, classes, test, p) {
-        return Some(Found { state: p, test });
-    }
-    if let Some(found) = single_of(m, classes, p) {
-        return Some(found);
-    }
-    left_of(m, classes, p)
-}
-
-// Looks near the representatives at the states from `low` on, below `high`.
-fn near_between<M: TreeAutomaton>(
-    m: &M,
-    classes: Classes<'_>,
-    low: usize,
-    high: usize,
-) -> Option<Found>
-    requires sound { M.TreeAutomaton.sound m.now }
-    requires partition { Partition (M.TreeAutomaton.meaning m.now) classes.of.now classes.reps.now classes.count }
-    requires within { high ≤ (M.TreeAutomaton.meaning m.now).size }
-    ensures { Looked (Between low high (Near classes.entry.count)) (M.TreeAutomaton.letters m.now) (M.TreeAutomaton.meaning m.now) classes.entry.of.now classes.entry.reps.now result }
+// What a look finds first at the states from `low` on, below `high`.
+fn find_between<F: Fn(usize) -> Option<Found>>(low: usize, high: usize, look: F) -> Option<Found>
+    requires { (p : ℕ) → low ≤ p → p < high → F.pre look p }
+    ensures { MatchOption result ((p : ℕ) → low ≤ p → p < high → F.post look p None) (λ found. (p : ℕ) × (low ≤ p) × (p < high) × F.post look p (Some found)) }
 {
     for p in low..high {
-        if let Some(found) = near_of(m, classes, p) {
+        if let Some(found) = look(p) {
             return Some(found);
         }
     }
     None
 }
 
-// Looks at all states on the right of those from `low` on, below `high`.
-fn right_between<M: TreeAutomaton>(
-    m: &M,
-    classes: Classes<'_>,
-    low: usize,
-    high: usize,
-) -> Option<Found>
-    requires sound { M.TreeAutomaton.sound m.now }
-    requires partition { Partition (M.TreeAutomaton.meaning m.now) classes.of.now classes.reps.now classes.count }
-    requires within { high ≤ (M.TreeAutomaton.meaning m.now).size }
-    ensures { Looked (Between low high RightAlike) (M.TreeAutomaton.letters m.now) (M.TreeAutomaton.meaning m.now) classes.entry.of.now classes.entry.reps.now result }
+// What a look at the states below `size` finds first, from `start` on and round to it again.
+fn find_round<F: Fn(usize) -> Option<Found>>(size: usize, start: usize, look: F) -> Option<Found>
+    requires { (p : ℕ) → p < size → F.pre look p }
+    ensures { MatchOption result ((p : ℕ) → p < size → F.post look p None) (λ found. (p : ℕ) × (p < size) × F.post look p (Some found)) }
 {
-    for x in low..high {
-        if let Some(found) = right_of(m, classes, x) {
+    let middle = start.min(size);
+    find_between(middle, size, &look).or_else(|| find_between(0, middle, &look))
+}
+
+impl<M: TreeAutomaton> Partitioned<'_, M> {
+    // Looks at p as the one child.
+    fn single_of(&self, p: usize) -> Option<Found>
+        requires { p < (M.meaning self.now.machine.now).size }
+        ensures { Looked (SingleAlike p) (M.letters self.now.machine.now) (M.meaning self.now.machine.now) self.now.classes.now self.now.reps.now result }
+    {
+        for a in 0..self.machine.atoms() {
+            let test = Test::Single(a);
+            if !self.alike(test, p) {
+                return Some(Found { state: p, test });
+            }
+        }
+        None
+    }
+
+    // Looks at p on the left of representatives.
+    fn left_of(&self, p: usize) -> Option<Found>
+        requires { p < (M.meaning self.now.machine.now).size }
+        ensures { Looked (LeftAlike self.now.count p) (M.letters self.now.machine.now) (M.meaning self.now.machine.now) self.now.classes.now self.now.reps.now result }
+    {
+        let row = self.machine.row(p);
+        let r = self.representative(p);
+        let table = self.beside_representatives(r, &self.machine.row(r));
+        for (i, &y) in self.reps[..self.count].iter().enumerate() {
+            let y = y as usize;
+            if let Some(a) = self.first_difference(p, &row, y, &table[i]) {
+                let test = Test::Left(y, a);
+                return Some(Found { state: p, test });
+            }
+        }
+        None
+    }
+
+    // Looks at all states on the right of x.
+    fn right_of(&self, x: usize) -> Option<Found>
+        requires { x < (M.meaning self.now.machine.now).size }
+        ensures { Looked (RightAlike x) (M.letters self.now.machine.now) (M.meaning self.now.machine.now) self.now.classes.now self.now.reps.now result }
+    {
+        let row = self.machine.row(x);
+        let table = self.beside_representatives(x, &row);
+        for y in 0..self.machine.size() {
+            if let Some(a) = self.first_difference(x, &row, y, &table[self.classes[y] as usize]) {
+                let test = Test::Right(x, a);
+                return Some(Found { state: y, test });
+            }
+        }
+        None
+    }
+
+    // Looks at p: whether it accepts, as the one child, and on the left of representatives.
+    fn near_of(&self, p: usize) -> Option<Found>
+        requires { p < (M.meaning self.now.machine.now).size }
+        ensures { Looked (Near self.now.count p) (M.letters self.now.machine.now) (M.meaning self.now.machine.now) self.now.classes.now self.now.reps.now result }
+    {
+        let test = Test::Accepts;
+        if !self.alike(test, p) {
+            return Some(Found { state: p, test });
+        }
+        if let Some(found) = self.single_of(p) {
             return Some(found);
         }
+        self.left_of(p)
     }
-    None
-}
 
-// Looks at every state near the representatives, from `start` on and round to it again.
-fn near<M: TreeAutomaton>(m: &M, classes: Classes<'_>, start: usize) -> Option<Found>
-    requires sound { M.TreeAutomaton.sound m.now }
-    requires partition { Partition (M.TreeAutomaton.meaning m.now) classes.of.now classes.reps.now classes.count }
-    ensures { Looked (Between 0 (M.TreeAutomaton.meaning m.now).size (Near classes.entry.count)) (M.TreeAutomaton.letters m.now) (M.TreeAutomaton.meaning m.now) classes.entry.of.now classes.entry.reps.now result }
-{
-    let size = m.size();
-    let middle = start.min(size);
-    if let Some(found) = near_between(m, classes, middle, size) {
-        return Some(found);
+    // Looks at every state near the representatives, from `start` on and round to it again.
+    fn near(&self, start: usize) -> Option<Found>
+        ensures { Looked (Everywhere (Near self.now.count)) (M.letters self.now.machine.now) (M.meaning self.now.machine.now) self.now.classes.now self.now.reps.now result }
+    {
+        find_round(
+            self.machine.size(),
+            start,
+            |p|
+                requires { p < (M.meaning self.now.machine.now).size }
+                ensures { Looked (Near self.entry.now.count p) (M.letters self.entry.now.machine.now) (M.meaning self.entry.now.machine.now) self.entry.now.classes.now self.entry.now.reps.now result }
+            { self.near_of(p) },
+        )
     }
-    near_between(m, classes, 0, middle)
-}
 
-// Looks at all states on the right of every state, from `start` on and round to it again.
-fn far<M: TreeAutomaton>(m: &M, classes: Classes<'_>, start: usize) -> Option<Found>
-    requires sound { M.TreeAutomaton.sound m.now }
-    requires partition { Partition (M.TreeAutomaton.meaning m.now) classes.of.now classes.reps.now classes.count }
-    ensures { Looked (Between 0 (M.TreeAutomaton.meaning m.now).size RightAlike) (M.TreeAutomaton.letters m.now) (M.TreeAutomaton.meaning m.now) classes.entry.of.now classes.entry.reps.now result }
-{
-    let size = m.size();
-    let middle = start.min(size);
-    if let Some(found) = right_between(m, classes, middle, size) {
-        return Some(found);
+    // Looks at all states on the right of every state, from `start` on and round to it again.
+    fn far(&self, start: usize) -> Option<Found>
+        ensures { Looked (Everywhere RightAlike) (M.letters self.now.machine.now) (M.meaning self.now.machine.now) self.now.classes.now self.now.reps.now result }
+    {
+        find_round(
+            self.machine.size(),
+            start,
+            |x|
+                requires { x < (M.meaning self.now.machine.now).size }
+                ensures { Looked (RightAlike x) (M.letters self.entry.now.machine.now) (M.meaning self.entry.now.machine.now) self.entry.now.classes.now self.entry.now.reps.now result }
+            { self.right_of(x) },
+        )
     }
-    right_between(m, classes, 0, middle)
-}
 
-// Looks for a split, and far from the representatives only where there is none near them. Where the looking starts does not
-// matter to whether there is one.
-pub fn find_split<M: TreeAutomaton>(
-    m: &M,
-    classes: Classes<'_>,
-    state: usize,
-    row: usize,
-) -> Option<Found>
-    requires sound { M.TreeAutomaton.sound m.now }
-    requires partition { Partition (M.TreeAutomaton.meaning m.now) classes.of.now classes.reps.now classes.count }
-    ensures { Looked AllStable (M.TreeAutomaton.letters m.now) (M.TreeAutomaton.meaning m.now) classes.entry.of.now classes.entry.reps.now result }
-{
-    if let Some(found) = near(m, classes, state) {
-        return Some(found);
+    // Looks for a split, and far from the representatives only where there is none near them. Where the looking starts does
+    // not matter to whether there is one.
+    pub fn find_split(&self, state: usize, row: usize) -> Option<Found>
+        ensures { Looked AllStable (M.letters self.now.machine.now) (M.meaning self.now.machine.now) self.now.classes.now self.now.reps.now result }
+    {
+        if let Some(found) = self.near(state) {
+            return Some(found);
+        }
+        self.far(row)
     }
-    far(m, classes, row)
 }

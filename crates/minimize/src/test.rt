@@ -1,12 +1,7 @@
 // Tests that can tell two states apart.
-ghost use Rattle.std.specs.Prelude.{◌≡◌, ◌<◌, length};
-ghost use Rattle.minimize.specs.declared.test.Test.TheVariants.{Accepts, Single, Left, Right};
-ghost use Rattle.minimize.specs.Tests.{answer_of, Valid};
-
-use crate::automaton::TreeAutomaton;
 
 // A test of a state.
-#[derive(Clone, Copy)]
+#[derive(Clone, Copy, Debug, PartialEq, Eq)]
 pub enum Test {
     // whether it accepts
     Accepts,
@@ -18,38 +13,9 @@ pub enum Test {
     Right(usize, usize),
 }
 
-impl Test {
-    // The state on the left of the tested one, or `start` where there is none.
-    pub fn row_or(self, start: usize) -> usize
-        ensures { elim self [ Accepts ↦ result ≡ start | Single a ↦ result ≡ start | Left y a ↦ result ≡ start | Right x a ↦ result ≡ x ] }
-    {
-        match self {
-            Test::Right(x, _) => x,
-            _ => start,
-        }
-    }
-}
-
 // A state, and a test that it answers otherwise than the representative of its class.
-#[derive(Clone, Copy)]
+#[derive(Clone, Copy, Debug, PartialEq, Eq)]
 pub struct Found {
     pub state: usize,
     pub test: Test,
-}
-
-// What the test says of the state p.
-pub fn answer<M: TreeAutomaton>(m: &M, classes: &[u16], test: Test, p: usize) -> u16
-    requires sound { M.TreeAutomaton.sound m.now }
-    requires state { p < (M.TreeAutomaton.meaning m.now).size }
-    requires valid { Valid (M.TreeAutomaton.letters m.now) (M.TreeAutomaton.meaning m.now) test }
-    requires long { length classes.now ≡ (M.TreeAutomaton.meaning m.now).size }
-    ensures { result ≡ answer_of (M.TreeAutomaton.meaning m.now) classes.now test p }
-{
-    m.fit();
-    match test {
-        Test::Accepts => u16::from(m.accepts(p)),
-        Test::Single(a) => classes[m.single(p, a)],
-        Test::Left(y, a) => classes[m.double(p, &m.row(p), y, a)],
-        Test::Right(y, a) => classes[m.double(y, &m.row(y), p, a)],
-    }
 }

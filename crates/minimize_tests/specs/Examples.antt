@@ -1,14 +1,14 @@
 -- Small automata.
-use Rattle.std.specs.Prelude.{ℕ, ◌+◌, ◌-◌, ◌*◌, min, Bool, false, List, ◌==◌, slice_index, slice_index_or}
+use Rattle.std.specs.Prelude.{ℕ, ◌+◌, ◌-◌, min, Bool, false, List, [], ◌==◌, slice_index, slice_index_or}
 use Rattle.trees.specs.Automata.{Automaton}
 
 -- steps by tables for three states and two atoms; entries past the last state stand for it
-abbrev pub by_tables : ℕ → List Bool → List ℕ → List ℕ → Automaton
+abbrev pub by_tables : ℕ → List Bool → List (List ℕ) → List (List (List ℕ)) → Automaton
 by_tables size accepts single double = record {
   size = size;
   none = λ a. 0;
-  single = λ p a. min (slice_index single (p * 2 + a)) (size - 1);
-  double = λ p q a. min (slice_index double (p * 6 + q * 2 + a)) (size - 1);
+  single = λ p a. min (slice_index (slice_index_or single p []) a) (size - 1);
+  double = λ p q a. min (slice_index (slice_index_or (slice_index_or double p []) q []) a) (size - 1);
   accepts = λ p. slice_index_or accepts p false;
 }
 

@@ -1,5 +1,7 @@
 // A chain of states.
 ghost use Rattle.std.specs.Prelude.{◌≤◌};
+ghost use Rattle.std.proofs.Common.{rules};
+ghost use Rattle.std.proofs.lemmas.Grind.{common_steps};
 ghost use Rattle.minimize_tests.specs.Examples.{chain};
 
 use minimize::automaton::TreeAutomaton;
@@ -20,10 +22,6 @@ impl TreeAutomaton for Chain {
     ghost letters = { λ s. 1 };
 
     ghost prepared = { λ s p row. Unit {0} };
-
-    ghost sound = { λ s. Unit {0} };
-
-    fn fit(&self) {}
 
     fn size(&self) -> usize {
         self.size
@@ -50,4 +48,6 @@ impl TreeAutomaton for Chain {
     fn double(&self, _p: usize, _row: &(), _q: usize, _a: usize) -> usize {
         0
     }
+
+    ghost fit = { λ s. Prim.search (rules, common_steps) };
 }

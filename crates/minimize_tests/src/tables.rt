@@ -1,40 +1,35 @@
 // Automata given by tables.
-ghost use Rattle.std.specs.Prelude.{◌≡◌, ◌*◌, ◌≤◌, length};
+ghost use Rattle.std.specs.Prelude.{◌≡◌, ◌≤◌, [], slice_index_or};
+ghost use Rattle.std.proofs.Common.{rules};
+ghost use Rattle.std.proofs.lemmas.Grind.{common_steps};
 ghost use Rattle.minimize_tests.specs.Examples.{by_tables};
 
 use minimize::automaton::TreeAutomaton;
 
 // At most three states and two atoms. An entry past the last state stands for it.
 #[derive(Drop)]
-pub struct Tables {
+pub struct Tables<'a> {
     pub size: usize,
     pub atoms: usize,
     pub accepts: [bool; 3],
     // by state and atom
-    pub single: [usize; 6],
+    pub single: &'a [[usize; 2]; 3],
     // by left state, right state and atom
-    pub double: [usize; 18],
+    pub double: &'a [[[usize; 2]; 3]; 3],
     ghost some: { 1 ≤ size },
     ghost few: { size ≤ 3 },
     ghost atoms_few: { atoms ≤ 2 },
-    ghost accepts_long: { length accepts ≡ 3 },
-    ghost single_long: { length single ≡ 6 },
-    ghost double_long: { length double ≡ 18 },
 }
 
-impl TreeAutomaton for Tables {
-    // where the rows of `double` for the left state begin
-    type Row = usize;
+impl<'a> TreeAutomaton for Tables<'a> {
+    // the part of `double` for the left state
+    type Row = &'a [[usize; 2]; 3];
 
-    ghost meaning = { λ s. by_tables s.size s.accepts s.single s.double };
+    ghost meaning = { λ s. by_tables s.size s.accepts s.single.now s.double.now };
 
     ghost letters = { λ s. s.atoms };
 
-    ghost prepared = { λ s p row. row ≡ p * 6 };
-
-    ghost sound = { λ s. Unit {0} };
-
-    fn fit(&self) {}
+    ghost prepared = { λ s p row. row.now ≡ slice_index_or s.double.now p [] };
 
     fn size(&self) -> usize {
         self.size
@@ -53,14 +48,16 @@ impl TreeAutomaton for Tables {
     }
 
     fn single(&self, p: usize, a: usize) -> usize {
-        self.single[p * 2 + a].min(self.size - 1)
+        self.single[p][a].min(self.size - 1)
     }
 
-    fn row(&self, p: usize) -> usize {
-        p * 6
+    fn row(&self, p: usize) -> &'a [[usize; 2]; 3] {
+        &self.double[p]
     }
 
-    fn double(&self, _p: usize, row: &usize, q: usize, a: usize) -> usize {
-        self.double[*row + q * 2 + a].min(self.size - 1)
+    fn double(&self, _p: usize, row: &&'a [[usize; 2]; 3], q: usize, a: usize) -> usize {
+        row[q][a].min(self.size - 1)
     }
+
+    ghost fit = { λ s. Prim.search (rules, common_steps) };
 }

@@ -1,10 +1,24 @@
 // The classes of small automata.
-ghost use Rattle.std.specs.Prelude.{◌≡◌, ◌<◌, replicate, slice_set};
+ghost use Rattle.std.specs.Prelude.{◌≡◌};
+ghost use Rattle.minimize.specs.Minimized.{Minimized};
 
 use crate::chain::Chain;
 use crate::tables::Tables;
+use minimize::automaton::TreeAutomaton;
 use minimize::fault::TooManyClasses;
 use minimize::refine::minimize;
+
+// How many classes there are, the class of each of the N states, and the representatives.
+fn minimized<M: TreeAutomaton, const N: usize>(
+    m: &M,
+) -> (Result<usize, TooManyClasses>, [u16; N], [u16; 32])
+    requires { N ≡ (M.meaning m.now).size }
+    ensures { Minimized (M.letters m.now) (M.meaning m.now) result.0 result.1 result.2 }
+{
+    let (mut classes, mut next, mut reps) = ([7; N], [7; N], [7; 32]);
+    let count = minimize(m, &mut classes, &mut next, &mut reps);
+    (count, classes, reps)
+}
 
 // Both states accept.
 #[test]
@@ -13,11 +27,11 @@ fn states_that_all_accept_are_one_class(rt: HostRuntime) {
         size: 2,
         atoms: 2,
         accepts: [true, true, false],
-        single: [1, 0, 0, 1, 0, 0],
-        double: [0; 18],
+        single: &[[1, 0], [0, 1], [0, 0]],
+        double: &[[[0; 2]; 3]; 3],
     };
-    let (mut classes, mut next, mut reps) = ([7; 2], [7; 2], [7; 32]);
-    assert_eq!(rt; minimize(&m, &mut classes, &mut next, &mut reps), Ok(1));
+    let (count, classes, reps) = minimized::<_, 2>(&m);
+    assert_eq!(rt; count, Ok(1));
     assert_eq!(rt; classes, [0, 0]);
     assert_eq!(rt; reps[0], 0);
 }
@@ -29,55 +43,52 @@ fn congruent_states_are_one_class(rt: HostRuntime) {
         size: 3,
         atoms: 1,
         accepts: [false, true, false],
-        single: [1, 0, 2, 0, 1, 0],
-        double: [0; 18],
+        single: &[[1, 0], [2, 0], [1, 0]],
+        double: &[[[0; 2]; 3]; 3],
     };
-    let (mut classes, mut next, mut reps) = ([7; 3], [7; 3], [7; 32]);
-    assert_eq!(rt; minimize(&m, &mut classes, &mut next, &mut reps), Ok(2));
+    let (count, classes, reps) = minimized::<_, 3>(&m);
+    assert_eq!(rt; count, Ok(2));
     assert_eq!(rt; classes, [0, 1, 0]);
     assert_eq!(rt; (reps[0], reps[1]), (0, 1));
 }
 
-// State 2 accepts, and one step of two children leads there, that with its place in the table.
-fn one_step(place: usize) -> Tables
-    requires { place < 18 }
+// State 2 accepts, and only steps of two children lead to other states than 0.
+fn steps_of_two(double: &[[[usize; 2]; 3]; 3]) -> Tables<'_>
     ensures size { result.size ≡ 3 }
-    ensures steps { result.double ≡ slice_set (replicate 18 0) place 2 }
+    ensures steps { result.double.now ≡ double.now }
 {
-    let mut double = [0; 18];
-    double[place] = 2;
     Tables {
         size: 3,
         atoms: 2,
         accepts: [false, false, true],
-        single: [0; 6],
+        single: &[[0; 2]; 3],
         double,
     }
 }
 
 #[test]
 fn the_right_child_alone_tells_apart(rt: HostRuntime) {
-    let m = one_step(2 * 6 + 2 + 1);
-    let (mut classes, mut next, mut reps) = ([7; 3], [7; 3], [7; 32]);
-    assert_eq!(rt; minimize(&m, &mut classes, &mut next, &mut reps), Ok(3));
+    let mut double = [[[0; 2]; 3]; 3];
+    double[2][1][1] = 2;
+    let (count, classes, reps) = minimized::<_, 3>(&steps_of_two(&double));
+    assert_eq!(rt; count, Ok(3));
     assert_eq!(rt; classes, [0, 2, 1]);
     assert_eq!(rt; (reps[1], reps[2]), (2, 1));
 }
 
 #[test]
 fn the_left_child_alone_tells_apart(rt: HostRuntime) {
-    let m = one_step(6 + 2 * 2 + 1);
-    let (mut classes, mut next, mut reps) = ([7; 3], [7; 3], [7; 32]);
-    assert_eq!(rt; minimize(&m, &mut classes, &mut next, &mut reps), Ok(3));
+    let mut double = [[[0; 2]; 3]; 3];
+    double[1][2][1] = 2;
+    let (count, classes, _) = minimized::<_, 3>(&steps_of_two(&double));
+    assert_eq!(rt; count, Ok(3));
     assert_eq!(rt; classes, [0, 2, 1]);
 }
 
 #[test]
 fn there_are_32_classes_at_most(rt: HostRuntime) {
-    let (mut classes, mut next, mut reps) = ([7; 32], [7; 32], [7; 32]);
-    let full = minimize(&Chain { size: 32 }, &mut classes, &mut next, &mut reps);
+    let (full, _, _) = minimized::<_, 32>(&Chain { size: 32 });
     assert_eq!(rt; full, Ok(32));
-    let (mut classes, mut next) = ([7; 33], [7; 33]);
-    let more = minimize(&Chain { size: 33 }, &mut classes, &mut next, &mut reps);
+    let (more, _, _) = minimized::<_, 33>(&Chain { size: 33 });
     assert_eq!(rt; more, Err(TooManyClasses));
 }

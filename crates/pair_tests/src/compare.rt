@@ -24,13 +24,7 @@ fn grid(heap: Global, firsts: &[u32], seconds: &[u32]) -> Result<Vec<u64>, Alloc
 
 // The guards that hold of the label.
 fn guards_at<K: LabelKind>(kind: &K, label: u64) -> GuardSet {
-    let mut set = GuardSet::none();
-    for g in 0..kind.count() {
-        if kind.holds(g, label) {
-            set = set.with(g);
-        }
-    }
-    set
+    GuardSet::from_fn(|g| kind.holds(g, label))
 }
 
 // The first of the labels that fits.

@@ -6,9 +6,9 @@ use Rattle.std.proofs.lemmas.Grind.{common_steps}
 use Rattle.std.proofs.lemmas.Bool.{cases_lt}
 use Rattle.labels.specs.Meaning.{Meaning, Fits, IsLeast}
 use Rattle.labels.specs.Sets.{has}
-use Rattle.pairs.proofs.Labels.{first_is, second_is}
+use Rattle.pairs.specs.Laws.{first_is, second_is}
 use Rattle.pairs.specs.Pairs.{pair_meaning, given_holds, first_of, second_of, value_at}
-use Rattle.pairs.specs.Search.{Seconds, Branch, Next, Searched, Narrow}
+use Rattle.pairs.specs.Search.{Seconds, Branch, Next, Searched}
 use Rattle.pairs.specs.declared.pair.search.Path.{Path}
 use Rattle.pairs.specs.declared.value.PairValue.{PairValue}
 
@@ -54,7 +54,7 @@ module _ (a b : Meaning) (vs : List (Option PairValue)) (n : ℕ) (p : Path) (br
     }
 
   -- the second part has a label: the lesser of it with x, and the best so far
-  module _ (narrow : Narrow b) (x q : ℕ) (l : IsLeast a p.ins.0 p.outs.0 (Some x)) (l' : IsLeast b s t (Some q)) where
+  module _ (narrow : (k : ℕ) → b.label k ≡ true → k < 2 ^ 32) (x q : ℕ) (l : IsLeast a p.ins.0 p.outs.0 (Some x)) (l' : IsLeast b s t (Some q)) where
     least_below : (y : ℕ) → Fits a p.ins.0 p.outs.0 (first_of y) → Fits (pair_meaning a b vs n) p.yes.0 p.no.0 y → x * 2 ^ 32 + q ≤ y
     least_below y f fit =
         let low = l.1 (first_of y) f in

@@ -1,6 +1,5 @@
-use Rattle.atoms.specs.Atoms.{Lists}
-use Rattle.atoms.specs.Drafts.{first}
+use Rattle.atoms.specs.Drafts.{first, Covers}
 use Rattle.atoms.proofs.split.all_atoms.Given as goal
 
 abbrev pub invariant-loop-g : goal.invariant-loop-g
-invariant-loop-g g l = Lists (first l.g (g.K.LabelKind.book l.kind).meaning) l.draft.atoms l.draft.len
+invariant-loop-g g l = Covers (first l.g (g.K.LabelKind.book l.kind).meaning) (λ x. Unit {0}) l.atoms.items

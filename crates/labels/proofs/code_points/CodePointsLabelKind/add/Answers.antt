@@ -1,9 +1,10 @@
 use Rattle.std.proofs.Common.{◌≡◌, ℕ, ◌+◌, ◌<◌, ◌≤◌, leb, ◌∷◌, length, vec_items, vec_len, sym, refl, ap, subst, arith}
 use Rattle.std.proofs.lemmas.Bool.{and_from, le-leb, lt-leb}
 use Rattle.labels.specs.Adding.{Joins}
+use Rattle.labels.specs.Laws.{RangesBelow}
 use Rattle.labels.specs.Ranges.{code_meaning, in_range, given_at}
 use Rattle.labels.specs.declared.range.Given.{Given}
-use Rattle.labels.proofs.CodePoints.{Known, push_known, push_ended, push_joins}
+use Rattle.labels.proofs.CodePoints.{push_known, push_ended, push_joins}
 use Rattle.labels.proofs.code_points.CodePointsLabelKind.add.Goals as goal
 
 pub invariant_of-self : goal.invariant_of-self
@@ -16,7 +17,7 @@ invariant_of-self c =
       limit = omega (arith, pushed.len, k.limit, c.len.ensures);
       room = omega (arith, pushed.capacity, k.room);
       few = omega (arith, k.few, c.max-self.ensures);
-      known = subst (λ l. Known l c.max-self.result) (sym pushed.items) (push_known rs r k.guards c.max-self.result c.max-self.ensures k.known);
+      known = subst (λ l. RangesBelow l c.max-self.result) (sym pushed.items) (push_known rs r k.guards c.max-self.result c.max-self.ensures k.known);
       ended = subst (λ l. (i : ℕ) → i < length l → (given_at l i).range.high ≤ 0x10FFFF) (sym pushed.items) (push_ended rs r 0x10FFFF k.ended (omega arith));
     }
 

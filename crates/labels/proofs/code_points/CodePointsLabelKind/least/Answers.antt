@@ -1,14 +1,17 @@
-use Rattle.std.proofs.Common.{Some, None, subst}
-use Rattle.labels.specs.Meaning.{IsLeast}
+use Rattle.std.proofs.Common.{◌≡◌, rules}
 use Rattle.labels.specs.Ranges.{code_meaning}
+use Rattle.labels.proofs.CodePoints.{one_searched, all_searched}
 use Rattle.labels.proofs.code_points.CodePointsLabelKind.least.Goals as goal
 
-pub returns-in-Some : goal.returns-in-Some
-returns-in-Some c =
-    let n = c.args.self.now.guards in
-    subst (λ l. IsLeast (code_meaning l n) c.args.yes.0 c.args.no.0 (Some c.in-Some.x)) c.deref.ensures.value (c.in-Some.ensures n)
+pub loop-given-preserved : goal.loop-given-preserved
+loop-given-preserved c =
+    one_searched (code_meaning c.args.self.now.ranges.items c.args.self.now.guards) c.args.yes.0 c.args.no.0 c.deref-given-items.result.now c.loop-given.given-index
+    c.skip_surrogates.result c.skip_surrogates-in-loop-given.result c.loop-given.best c.lesser-best-in-loop-given.result c.lesser-best-in-loop-given-2.result
+    c.skip_surrogates.ensures c.skip_surrogates-in-loop-given.ensures c.loop-given.invariant c.lesser-best-in-loop-given.ensures c.lesser-best-in-loop-given-2.ensures
 
-pub returns-in-None : goal.returns-in-None
-returns-in-None c =
-    let n = c.args.self.now.guards in
-    subst (λ l. IsLeast (code_meaning l n) c.args.yes.0 c.args.no.0 None) c.deref.ensures.value (c.in-None.ensures n)
+pub returns : goal.returns
+returns c =
+    let same : c.map.result ≡ c.loop-given.best = search rules in
+    rw same
+    (all_searched c.args.self.now.ranges.items c.args.self.now.guards c.args.yes.0 c.args.no.0 c.loop-given.given-index c.loop-given.best
+    (rw c.deref-given-items.ensures.value at c.loop-given-test.false) (rw c.deref-given-items.ensures.value at c.loop-given.invariant))

@@ -1,8 +1,9 @@
 use Rattle.std.proofs.Common.{◌≡◌, ltb, length, replicate, vec_items, sym, refl, ap, ◌∙◌, subst, arith}
 use Rattle.std.proofs.lemmas.List.{length-replicate}
 use Rattle.labels.specs.Meaning.{Fresh}
+use Rattle.labels.specs.Laws.{SetsBelow}
 use Rattle.labels.specs.Tables.{empty, table_meaning}
-use Rattle.labels.proofs.Tables.{Known, fresh_known, fresh_table}
+use Rattle.labels.proofs.Tables.{fresh_known, fresh_table}
 use Rattle.labels.proofs.events.EventWords.new.Goals as goal
 use Rattle.labels.proofs.events.EventWords.new.Goals.{In_ok-sets}
 
@@ -15,7 +16,7 @@ invariant_of-result c =
     record {
       long = ap length (blank c) ∙ length-replicate 65536 empty;
       few = omega arith;
-      known = subst (λ l. Known l 0) (sym (blank c)) (fresh_known 65536);
+      known = subst (λ l. SetsBelow l 0) (sym (blank c)) (fresh_known 65536);
       limit = omega arith;
     }
 

@@ -1,0 +1,11 @@
+use Rattle.std.proofs.Common.{⊎_elim, arith}
+use Rattle.std.proofs.lemmas.Bool.{cases_lt}
+use Rattle.std.proofs.lemmas.Bool.Decides.{nat_tests}
+use Rattle.labels.proofs.set.GuardSet.others.Goals as goal
+
+pub returns : goal.returns
+returns c = λ g.
+    ⊎_elim
+    (λ under. let said = c.from_fn.ensures.chosen g under in grind (arith, nat_tests, said))
+    (λ past. let none = c.from_fn.ensures.small g past in grind (arith, nat_tests))
+    (cases_lt g 32)
