@@ -1,18 +1,16 @@
 -- A branch of the search: the labels of the two parts, and the label of the pair.
-use Rattle.std.proofs.Common.{◌≡◌, ℕ, ◌+◌, ◌*◌, ◌^◌, ◌<◌, ◌≤◌, min, Bool, true, false, ◌&&◌, List, ◌⊎◌, Some, None, Option, sym, refl, ap, ◌∙◌, subst, inl, inr, ⊎_elim, arith, MatchOption}
+use Rattle.std.proofs.Common.{◌≡◌, ℕ, ◌+◌, ◌*◌, ◌^◌, ◌<◌, ◌≤◌, min, true, false, List, ◌⊎◌, Some, None, Option, sym, refl, ap, subst, inl, inr, ⊎_elim, arith, MatchOption}
 use Rattle.std.proofs.lemmas.Nat.{div-add-mod'}
-use Rattle.std.proofs.lemmas.Bool.{both_ways, cases_lt, and_parts, and_from, and_right}
+use mathlib.Core.Bool.{and-false}
+use Rattle.std.proofs.lemmas.Grind.{common_steps}
+use Rattle.std.proofs.lemmas.Bool.{cases_lt}
 use Rattle.labels.specs.Meaning.{Meaning, Fits, IsLeast}
 use Rattle.labels.specs.Sets.{has}
 use Rattle.pairs.specs.Laws.{first_is, second_is}
-use Rattle.pairs.specs.Pairs.{pair_meaning, pair_label, given_holds, first_of, second_of, value_at}
-use Rattle.pairs.specs.Search.{Seconds, Branch, Next, Searched, Narrow}
+use Rattle.pairs.specs.Pairs.{pair_meaning, given_holds, first_of, second_of, value_at}
+use Rattle.pairs.specs.Search.{Seconds, Branch, Next, Searched}
 use Rattle.pairs.specs.declared.pair.search.Path.{Path}
 use Rattle.pairs.specs.declared.value.PairValue.{PairValue}
-
-other_false : (x y : Bool) → (x && y) ≡ false → x ≡ true → y ≡ false
-other_false true y h e = h
-other_false false y h e = absurd (both_ways false refl e)
 
 module _ (a b : Meaning) (vs : List (Option PairValue)) (n : ℕ) (p : Path) (branch : Branch vs p) (over : Next p.asked.0 p.next None) (s t : ℕ) (fors : Seconds vs p.yes.0 p.ins.0 s) (againsts : Seconds vs p.no.0 p.ins.0 t) where
   -- no first is still to be asked
@@ -22,50 +20,41 @@ module _ (a b : Meaning) (vs : List (Option PairValue)) (n : ℕ) (p : Path) (br
   -- the second part of a label that fits
   pub second_fits : (y : ℕ) → Fits a p.ins.0 p.outs.0 (first_of y) → Fits (pair_meaning a b vs n) p.yes.0 p.no.0 y → Fits b s t (second_of y)
   second_fits y f fit = record {
-    label = (and_parts (a.label (first_of y)) (b.label (second_of y)) fit.label).1;
+    label = grind (arith, common_steps, fit.label);
     every = λ k h.
         let from = fors.only k h in
-        let v = from.value in
-        let holds = (and_parts (pair_label a b y) (given_holds a b (value_at vs from.guard) y) (fit.every from.guard from.chosen)).1 in
-        let both = subst (λ o. given_holds a b o y ≡ true) from.given holds in
-        subst (λ j. b.holds j (second_of y) ≡ true) from.is (and_parts (a.holds v.first (first_of y)) (b.holds v.second (second_of y)) both).1;
+        let holds = fit.every from.guard from.chosen in
+        grind (arith, common_steps, from.given, from.is);
     none = λ k h.
         let from = againsts.only k h in
-        let v = from.value in
-        let fails = other_false (pair_label a b y) (given_holds a b (value_at vs from.guard) y) (fit.none from.guard from.chosen) fit.label in
-        let both = subst (λ o. given_holds a b o y ≡ false) from.given fails in
-        subst (λ j. b.holds j (second_of y) ≡ false) from.is (other_false (a.holds v.first (first_of y)) (b.holds v.second (second_of y)) both (f.every v.first from.kept));
+        let fails = fit.none from.guard from.chosen in
+        let first = f.every from.value.first from.kept in
+        grind (arith, common_steps, fit.label, from.given, from.is);
   }
 
   -- labels of the two parts that fit
   module _ (x q : ℕ) (narrow : q < 2 ^ 32) (f : Fits a p.ins.0 p.outs.0 x) (f' : Fits b s t q) where
-    at_parts : (h k : ℕ) (c d : Bool) → a.holds h x ≡ c → b.holds k q ≡ d → (a.holds h (first_of (x * 2 ^ 32 + q)) && b.holds k (second_of (x * 2 ^ 32 + q))) ≡ (c && d)
-    at_parts h k c d e e' = ap (λ u. u && b.holds k (second_of (x * 2 ^ 32 + q))) (ap (a.holds h) (first_is x q narrow) ∙ e) ∙ ap (λ u. c && u) (ap (b.holds k) (second_is x q narrow) ∙ e')
-
     none_given : (g : ℕ) (o : Option PairValue) → has p.no.0 g ≡ true → value_at vs g ≡ o → given_holds a b o (x * 2 ^ 32 + q) ≡ false
     none_given g None chosen is = refl
     none_given g (Some v) chosen is =
         ⊎_elim
-        (λ taken. at_parts v.first v.second true false (f.every v.first taken) (f'.none v.second (againsts.every g v chosen is taken)))
-        (λ left. at_parts v.first v.second false (b.holds v.second q) (f.none v.first left) refl)
+        (λ taken. let fails = f'.none v.second (againsts.every g v chosen is taken) in simp (first_is x q narrow, second_is x q narrow, fails, and-false))
+        (λ left. let fails = f.none v.first left in simp (first_is x q narrow, second_is x q narrow, fails))
         (settled v.first (branch.asks.every g v chosen is refl))
 
     pub both_fit : Fits (pair_meaning a b vs n) p.yes.0 p.no.0 (x * 2 ^ 32 + q)
-    both_fit =
-        let y : ℕ = x * 2 ^ 32 + q in
-        let label : pair_label a b y ≡ true = and_from (a.label (first_of y)) (b.label (second_of y)) (ap a.label (first_is x q narrow) ∙ f.label) (ap b.label (second_is x q narrow) ∙ f'.label) in
-        record {
-          label = label;
-          every = λ g chosen.
-              let from = branch.takes g chosen in
-              let v = from.0 in
-              and_from (pair_label a b y) (given_holds a b (value_at vs g) y) label
-              (ap (λ o. given_holds a b o y) from.1 ∙ at_parts v.first v.second true true (f.every v.first from.2) (f'.every v.second (fors.every g v chosen from.1 from.2)));
-          none = λ g chosen. and_right (pair_label a b y) (given_holds a b (value_at vs g) y) (none_given g (value_at vs g) chosen refl);
-        }
+    both_fit = record {
+      label = simp (first_is x q narrow, second_is x q narrow, f.label, f'.label);
+      every = λ g chosen.
+          let from = branch.takes g chosen in
+          let here = f.every from.0.first from.2 in
+          let there = f'.every from.0.second (fors.every g from.0 chosen from.1 from.2) in
+          simp (from.1, first_is x q narrow, second_is x q narrow, f.label, f'.label, here, there);
+      none = λ g chosen. simp (none_given g (value_at vs g) chosen refl, and-false);
+    }
 
   -- the second part has a label: the lesser of it with x, and the best so far
-  module _ (narrow : Narrow b) (x q : ℕ) (l : IsLeast a p.ins.0 p.outs.0 (Some x)) (l' : IsLeast b s t (Some q)) where
+  module _ (narrow : (k : ℕ) → b.label k ≡ true → k < 2 ^ 32) (x q : ℕ) (l : IsLeast a p.ins.0 p.outs.0 (Some x)) (l' : IsLeast b s t (Some q)) where
     least_below : (y : ℕ) → Fits a p.ins.0 p.outs.0 (first_of y) → Fits (pair_meaning a b vs n) p.yes.0 p.no.0 y → x * 2 ^ 32 + q ≤ y
     least_below y f fit =
         let low = l.1 (first_of y) f in

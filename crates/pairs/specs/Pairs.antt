@@ -1,5 +1,6 @@
 -- The pair of two kinds.
-use Rattle.std.specs.Prelude.{ℕ, ◌/◌, ◌%◌, ◌^◌, Bool, false, ◌&&◌, ◌||◌, List, [], ◌∷◌, is_some, Some, None, Option, ◌==◌, nat_lt, slice_index_or}
+use Rattle.std.specs.Prelude.{ℕ, ◌/◌, ◌%◌, ◌^◌, Bool, false, ◌&&◌, ◌||◌, List, is_some, Some, None, Option, ◌==◌, nat_lt, slice_index_or}
+use Rattle.std.specs.List.{list_any}
 use Rattle.labels.specs.Adding.{Book}
 use Rattle.labels.specs.Meaning.{Meaning}
 use Rattle.pairs.specs.declared.value.PairValue.{PairValue}
@@ -34,10 +35,6 @@ pair_meaning a b vs n = record { label = pair_label a b; guards = n; holds = λ 
 abbrev pub pair_formed : Meaning → Meaning → PairValue → Bool
 pair_formed a b v = nat_lt v.first a.guards && nat_lt v.second b.guards
 
-abbrev pub member : List ℕ → ℕ → Bool
-member [] g = false
-member (h ∷ gs) g = g == h || member gs g
-
 -- the book of a pair, whose guards take one value each
 abbrev pub pair_book : Meaning → Meaning → List (Option PairValue) → ℕ → Book PairValue
-pair_book a b vs n = record { meaning = pair_meaning a b vs n; formed = pair_formed a b; labels = both_hold a b; full = λ gs g. is_some (value_at vs g) || member gs g }
+pair_book a b vs n = record { meaning = pair_meaning a b vs n; formed = pair_formed a b; labels = both_hold a b; full = λ gs g. is_some (value_at vs g) || list_any (λ h. g == h) gs }

@@ -54,7 +54,7 @@ impl<A: NarrowKind, B: NarrowKind> LabelKind for Pair<A, B> {
 
     fn holds(&self, guard: u32, x: u64) -> bool {
         self.label(x)
-            && self.values.at(guard).is_some_and(|v| {
+            && self.values.get(guard).is_some_and(|v| {
                 self.first.holds(v.first, x / SPAN) && self.second.holds(v.second, x % SPAN)
             })
     }
@@ -63,14 +63,12 @@ impl<A: NarrowKind, B: NarrowKind> LabelKind for Pair<A, B> {
         if !self.values.all_given(yes) {
             return None;
         }
-        let asked = self.values.firsts(no);
-        let ins = self.values.firsts(yes);
         let start = Path {
             yes,
             no,
-            asked,
+            asked: self.values.firsts(no),
             next: 0,
-            ins,
+            ins: self.values.firsts(yes),
             outs: GuardSet::none(),
         };
         self.search(start, None)
@@ -84,12 +82,12 @@ impl<A: NarrowKind, B: NarrowKind> LabelKind for Pair<A, B> {
         if v.first >= self.first.count() || v.second >= self.second.count() {
             return Err(AddFault::Value);
         }
-        if self.values.at(guard).is_some() {
+        if self.values.get(guard).is_some() {
             return Err(AddFault::Full);
         }
         self.values.put(guard, v);
         Ok(())
     }
 
-    ghost lawful = { λ p. pair_lawful (A.LabelKind.book p.first).meaning (B.LabelKind.book p.second).meaning p.values.list p.values.guards (A.lawful p.first) (B.lawful p.second) (A.narrow p.first) (B.narrow p.second) p.values.few p.values.known };
+    ghost lawful = { λ k. pair_lawful (A.LabelKind.book k.first).meaning (B.LabelKind.book k.second).meaning k.values.list k.values.guards (A.LabelKind.lawful k.first) (B.LabelKind.lawful k.second) (A.NarrowKind.narrow k.first) (B.NarrowKind.narrow k.second) k.values.few k.values.known };
 }

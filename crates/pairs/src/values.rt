@@ -35,7 +35,7 @@ impl Values {
         self.guards
     }
 
-    pub fn at(&self, guard: u32) -> Option<PairValue>
+    pub fn get(&self, guard: u32) -> Option<PairValue>
         ensures { result ≡ value_at self.now.list guard }
     {
         self.list.get(guard as usize).copied().flatten()
@@ -57,7 +57,7 @@ impl Values {
     pub fn all_given(&self, guards: GuardSet) -> bool
         ensures { Decides result (Given self.now.list guards.0) }
     {
-        (0..32).all(|g| !guards.contains(g) || self.at(g).is_some())
+        (0..32).all(|g| !guards.contains(g) || self.get(g).is_some())
     }
 
     // The first parts of the values of the guards.
