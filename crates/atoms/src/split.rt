@@ -1,7 +1,7 @@
 // Finds the atoms of a kind, guard by guard.
-ghost use Rattle.std.specs.Prelude.{◌≡◌, ℕ, ◌+◌, ◌<◌, ◌≤◌, false, Ok};
+ghost use Rattle.std.specs.Prelude.{◌≡◌, ℕ, ◌+◌, ◌<◌, ◌≤◌, false};
 ghost use Rattle.labels.specs.Sets.{has};
-ghost use Rattle.atoms.specs.Drafts.{Finds, Gathers, Keeps, first, Covers};
+ghost use Rattle.atoms.specs.Drafts.{Covers, Finds, first, Gathers, Keeps};
 
 use crate::atom::Atom;
 use crate::fault::TooManyAtoms;
