@@ -20,8 +20,8 @@ module _ {m : Meaning} {D : ℕ → Type 0} (d e : ArrayVec Atom) (s : ℕ) (new
       (λ k. subst (λ (b : ArrayVec Atom). Covers m (λ x. D x ⊎ Exactly m s x) b.items) (sym k.1) (covers_same (λ x. inl) (λ x. ⊎_elim (λ h. h) (λ h. absurd (k.0 x h))) c))
       (λ k. subst (Covers m (λ x. D x ⊎ Exactly m s x)) (sym k.2) (pushed_covers c (atom_of k.0 s) k.1 new))
 
-  pub kept_crowded : (b : Meaning) (count : ℕ) → m ≡ first count b → (f : TooManyAtoms) → Keeps m s d (Err f) e → MoreThan 16 b
-  kept_crowded b count is f k = crowded (pushed_covers c (atom_of k.0 s) k.1 new) b count 16 is (omega (arith, k.2, length_push d.items (atom_of k.0 s)))
+pub kept_crowded : (m : Meaning) (count s : ℕ) {D : ℕ → Type 0} (d e : ArrayVec Atom) → ((y : ℕ) → Exactly (first count m) s y → D y → ⊥) → Covers (first count m) D d.items → (f : TooManyAtoms) → Keeps (first count m) s d (Err f) e → MoreThan 16 m
+kept_crowded m count s d e new c f k = crowded m count 16 (pushed_covers c (atom_of k.0 s) k.1 new) (omega (arith, k.2, length_push d.items (atom_of k.0 s)))
 
 -- the labels of the first i atoms of xs
 abbrev pub Among : Meaning → List Atom → ℕ → ℕ → Type 0

@@ -1,4 +1,4 @@
-use Rattle.std.proofs.Common.{◌+◌, ◌⊎◌, refl, arith}
+use Rattle.std.proofs.Common.{◌+◌, ◌⊎◌, arith}
 use Rattle.std.proofs.lemmas.Result.{MatchResult-from_err}
 use Rattle.atoms.specs.Atoms.{Exactly}
 use Rattle.atoms.specs.Drafts.{first, Covers}
@@ -21,9 +21,9 @@ returns-in_err-keep g c =
     let m = (g.K.LabelKind.book c.args.kind.now).meaning in
     MatchResult-from_err c.from_residual.result _ _ c.from_residual.ensures.0
     (λ _.
-    kept_crowded c.loop-atom.parts c.keep.new.parts c.with.result.0
+    kept_crowded m (c.args.g + 1) c.with.result.0 c.loop-atom.parts c.keep.new.parts
     (new_with m c.args.g c.requires.small c.args.whole.now c.requires.gathered c.loop-atom.atom-index c.with.result.0 c.loop-atom-test.true c.with.ensures)
-    c.loop-atom.invariant m (c.args.g + 1) refl _ c.in_err-keep.ensures)
+    c.loop-atom.invariant _ c.in_err-keep.ensures)
 
 -- after the atom with the guard
 half : (g : given.Over) (c : In_ok-keep g) → Covers (first (c.args.g + 1) (g.K.LabelKind.book c.args.kind.now).meaning) (λ x. Among (first c.args.g (g.K.LabelKind.book c.args.kind.now).meaning) c.args.whole.now c.loop-atom.atom-index x ⊎ Exactly (first (c.args.g + 1) (g.K.LabelKind.book c.args.kind.now).meaning) c.with.result.0 x) c.keep.new.parts.items
@@ -38,9 +38,9 @@ returns-in_err-keep-2 g c =
     let m = (g.K.LabelKind.book c.args.kind.now).meaning in
     MatchResult-from_err c.from_residual-in_err-keep-2.result _ _ c.from_residual-in_err-keep-2.ensures.0
     (λ _.
-    kept_crowded c.keep.new.parts c.keep-in-loop-atom.new.parts (set_at c.args.whole.now c.loop-atom.atom-index)
+    kept_crowded m (c.args.g + 1) (set_at c.args.whole.now c.loop-atom.atom-index) c.keep.new.parts c.keep-in-loop-atom.new.parts
     (new_without m c.args.g c.requires.small c.args.whole.now c.requires.gathered c.loop-atom.atom-index c.with.result.0 c.loop-atom-test.true c.with.ensures)
-    (half g (goal.at.returns-in_err-keep-2 g c).In_ok-keep) m (c.args.g + 1) refl _ c.in_err-keep-2.ensures)
+    (half g (goal.at.returns-in_err-keep-2 g c).In_ok-keep) _ c.in_err-keep-2.ensures)
 
 pub loop-atom-preserved : goal.loop-atom-preserved
 loop-atom-preserved g c =
