@@ -26,17 +26,17 @@ padded xs ys blanks k =
 pub is_blank : (a : Atom) → (a.label ≡ 0) × (a.guards.0 ≡ 0) → a ≡ blank
 is_blank a zeros = λ i. record { label = zeros.0 i; guards = record { 0 = zeros.1 i } }
 
-one_blank : (k : ℕ) → atom_at (blank ∷ []) k ≡ blank
-one_blank zero = refl
-one_blank (suc k) = refl
+no_guards : (a : Atom) → a.guards.0 ≡ 0 → (k : ℕ) → set_at (a ∷ []) k ≡ 0
+no_guards a none zero = none
+no_guards a none (suc k) = refl
 
-pub blank_sound : Sound (blank ∷ []) 1 0
-blank_sound = record {
+pub one_sound : (a : Atom) → a.guards.0 ≡ 0 → Sound (a ∷ []) 1 0
+one_sound a none = record {
   some = omega arith;
   few = omega arith;
   rises = λ i j l h. absurd (omega arith);
   apart = λ i j l h e. omega arith;
-  known = λ k g up e. both_ways _ (ap (λ (a : Atom). has a.guards.0 g) (one_blank k) ∙ has_none g) e;
+  known = λ k g up e. both_ways _ (ap (λ s. has s g) (no_guards a none k) ∙ has_none g) e;
 }
 
 -- lists with the same entries

@@ -2,6 +2,9 @@
 ghost use Rattle.std.specs.Prelude.{◌≡◌};
 ghost use Rattle.atoms.specs.Tables.{number_of};
 
+use std::error::Error;
+use std::fmt;
+
 // There are more than 16 atoms.
 #[derive(Clone, Copy, Debug, PartialEq, Eq)]
 pub struct TooManyAtoms;
@@ -14,3 +17,15 @@ impl TooManyAtoms {
         20
     }
 }
+
+impl fmt::Display for TooManyAtoms {
+    ghost use Rattle.std.specs.Prelude.{Some, codes};
+
+    ghost output = { λ _. Some (codes "more than 16 atoms") };
+
+    fn fmt<W: fmt::Write>(&self, f: &mut fmt::Formatter<W>) -> fmt::Result {
+        f.write_str("more than 16 atoms")
+    }
+}
+
+impl Error for TooManyAtoms {}

@@ -1,7 +1,7 @@
 // Finds the atoms of a kind, guard by guard.
-ghost use Rattle.std.specs.Prelude.{◌≡◌, ℕ, ◌+◌, ◌<◌, ◌≤◌, false, Ok};
+ghost use Rattle.std.specs.Prelude.{◌≡◌, ℕ, ◌+◌, ◌<◌, ◌≤◌, false};
 ghost use Rattle.labels.specs.Sets.{has};
-ghost use Rattle.atoms.specs.Drafts.{Finds, Gathers, Keeps, first, Covers};
+ghost use Rattle.atoms.specs.Drafts.{Covers, Finds, first, Gathers, Keeps};
 
 use crate::atom::Atom;
 use crate::fault::TooManyAtoms;
@@ -9,11 +9,14 @@ use arrayvec::ArrayVec;
 use labels::kind::LabelKind;
 use labels::set::GuardSet;
 
+// At most 16 atoms.
+pub type Draft = ArrayVec<Atom, 16>;
+
 // All atoms of the kind by rising label, or the refusal where there are more than 16.
-pub fn all_atoms<K: LabelKind>(kind: &K) -> Result<ArrayVec<Atom, 16>, TooManyAtoms>
+pub fn all_atoms<K: LabelKind>(kind: &K) -> Result<Draft, TooManyAtoms>
     ensures { Finds (K.LabelKind.book kind.now).meaning result }
 {
-    let mut atoms = ArrayVec::new();
+    let mut atoms = Draft::new();
     keep(kind, GuardSet::none(), 0, &mut atoms)?;
     for g in 0..kind.count() {
         atoms = divide(kind, g, &atoms)?;
@@ -23,16 +26,12 @@ pub fn all_atoms<K: LabelKind>(kind: &K) -> Result<ArrayVec<Atom, 16>, TooManyAt
 }
 
 // The atoms of the first g + 1 guards, from those of the first g: each with the guard in, then out.
-fn divide<K: LabelKind>(
-    kind: &K,
-    g: u32,
-    whole: &[Atom],
-) -> Result<ArrayVec<Atom, 16>, TooManyAtoms>
+fn divide<K: LabelKind>(kind: &K, g: u32, whole: &[Atom]) -> Result<Draft, TooManyAtoms>
     requires small { g < 32 }
     requires gathered { Covers (first g (K.LabelKind.book kind.now).meaning) (λ _. Unit) whole.now }
     ensures { Gathers (g + 1) (K.LabelKind.book kind.now).meaning result }
 {
-    let mut parts = ArrayVec::new();
+    let mut parts = Draft::new();
     for atom in whole {
         let set = atom.guards;
         keep(kind, set.with(g), g + 1, &mut parts)?;
@@ -46,7 +45,7 @@ fn keep<K: LabelKind>(
     kind: &K,
     set: GuardSet,
     count: u32,
-    parts: &mut ArrayVec<Atom, 16>,
+    parts: &mut Draft,
 ) -> Result<(), TooManyAtoms>
     requires few { count ≤ 32 }
     requires only { (g : ℕ) → count ≤ g → has set.0 g ≡ false }

@@ -6,6 +6,7 @@ ghost use Rattle.atoms.specs.Entries.{atom_at, label_at, set_at, Sound, Unwritte
 use crate::atom::Atom;
 
 // At most 16 atoms by rising label, and the number of guards they speak of. Fresh, or written by `atoms`.
+// The count stands beside the array, since a table is a record of fixed size whose unused entries are zero.
 #[derive(Clone, Copy)]
 pub struct AtomTable {
     atoms: [Atom; 16],

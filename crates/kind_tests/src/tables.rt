@@ -11,10 +11,7 @@ use std::test::Fail;
 
 // The label of atom k and the bits of its guards.
 fn entry(table: &AtomTable, k: usize) -> Option<(u64, u32)> {
-    match table.atom(k) {
-        Some(atom) => Some((atom.label, atom.guards.0)),
-        None => None,
-    }
+    table.atom(k).map(|atom| (atom.label, atom.guards.0))
 }
 
 // Guard k has the tag k, for each k below n.
@@ -117,5 +114,15 @@ fn sixteen_tags_leave_a_written_table(rt: HostRuntime) -> Result<(), Fail> {
     assert_eq!(rt; table.guards(), 3);
     assert_eq!(rt; entry(&table, 2), Some((2, 4)));
     assert_eq!(rt; entry(&table, 3), Some((3, 0)));
+    Ok(())
+}
+
+#[test]
+fn the_refusal_as_a_text_and_a_number(rt: HostRuntime) -> Result<(), Fail> {
+    assert_eq!(rt;
+        TooManyAtoms.to_string(rt.alloc())?.as_str(),
+        "more than 16 atoms"
+    );
+    assert_eq!(rt; TooManyAtoms.number(), 20);
     Ok(())
 }

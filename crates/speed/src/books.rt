@@ -12,17 +12,13 @@ pub(crate) fn random_words(heap: Global) -> anyhow::Result<EventWords> {
     let mut words = EventWords::new(heap)?;
     for i in 0..64u32 {
         let pattern = random_pattern(heap, &mut seed)?;
-        give_word(&mut words, i / 2, &pattern)?;
+        give(&mut words, i / 2, &pattern)?;
     }
     Ok(words)
 }
 
 fn random_pattern(heap: Global, seed: &mut u32) -> Result<String, AllocError> {
-    let mut text = String::new(heap);
-    for _ in 0..16u32 {
-        text.push(random_sign(seed))?;
-    }
-    Ok(text)
+    (0..16u32).map(|_| random_sign(seed)).collect(heap)
 }
 
 // The next number of a linear congruential generator, as one of the three characters.
@@ -50,47 +46,33 @@ pub(crate) fn split_words(heap: Global) -> anyhow::Result<EventWords> {
     let mut words = EventWords::new(heap)?;
     for guard in 0..32u32 {
         let pattern = String::from_str(heap, LOW_BITS[guard as usize % 4])?;
-        give_word(&mut words, guard, &pattern)?;
-        give_word(&mut words, guard, &last)?;
+        give(&mut words, guard, &pattern)?;
+        give(&mut words, guard, &last)?;
     }
     Ok(words)
 }
 
-fn give_word(words: &mut EventWords, guard: u32, pattern: &String) -> anyhow::Result<()> {
-    match words.add(guard, pattern) {
-        Ok(()) => Ok(()),
-        Err(_) => Err(anyhow!("a pattern was refused")),
-    }
+fn give<K: LabelKind>(kind: &mut K, guard: u32, value: &K::Value) -> anyhow::Result<()> {
+    kind.add(guard, value)
+        .map_err(|_| anyhow!("a value was refused"))
 }
 
-// Two ranges each of guards 0 to 3, counted from 10FFF0 hex: from one number to the next exactly one guard changes, and
-// no set of guards comes twice.
+// Two ranges each of guards 0 to 3: from one number to the next exactly one guard changes, and no set of guards comes
+// twice.
 const STEPS: [[(u32, u32); 2]; 4] = [
-    [(3, 4), (10, 15)],
-    [(4, 8), (11, 13)],
-    [(2, 5), (8, 11)],
-    [(1, 6), (13, 14)],
+    [(0x10FFF3, 0x10FFF4), (0x10FFFA, 0x10FFFF)],
+    [(0x10FFF4, 0x10FFF8), (0x10FFFB, 0x10FFFD)],
+    [(0x10FFF2, 0x10FFF5), (0x10FFF8, 0x10FFFB)],
+    [(0x10FFF1, 0x10FFF6), (0x10FFFD, 0x10FFFE)],
 ];
 
 // Guards 0 to 3 make 16 atoms; each later guard is one of these again, and is asked about in all 16.
 pub(crate) fn split_points(heap: Global) -> anyhow::Result<CodePoints> {
     let mut points = CodePoints::new(heap)?;
     for guard in 0..32u32 {
-        let [first, second] = STEPS[guard as usize % 4];
-        give_range(&mut points, guard, first)?;
-        give_range(&mut points, guard, second)?;
+        for (low, high) in STEPS[guard as usize % 4] {
+            give(&mut points, guard, &Range { low, high })?;
+        }
     }
     Ok(points)
-}
-
-fn give_range(points: &mut CodePoints, guard: u32, ends: (u32, u32)) -> anyhow::Result<()> {
-    let (low, high) = ends;
-    let range = Range {
-        low: low.saturating_add(0x10FFF0),
-        high: high.saturating_add(0x10FFF0),
-    };
-    match points.add(guard, &range) {
-        Ok(()) => Ok(()),
-        Err(_) => Err(anyhow!("a range was refused")),
-    }
 }

@@ -40,6 +40,6 @@ fn measure<K: LabelKind>(rt: &HostRuntime, what: &str, kind: &K) -> io::Result<(
     let micros = start.elapsed(rt)?.as_micros() / u128::from(RUNS);
     match answer {
         Ok((count, guards)) => eprintln!(rt; "{what}: {micros} us, {count} atoms, {guards} guards"),
-        Err(TooManyAtoms) => eprintln!(rt; "{what}: {micros} us, more than 16 atoms"),
+        Err(fault) => eprintln!(rt; "{what}: {micros} us, {fault}"),
     }
 }

@@ -1,7 +1,5 @@
-use Rattle.std.proofs.Common.{◌∷◌, [], subst, sym}
-use Rattle.atoms.specs.Entries.{Sound}
-use Rattle.atoms.proofs.Tables.{blank_sound, is_blank}
+use Rattle.atoms.proofs.Tables.{one_sound}
 use Rattle.atoms.proofs.table.AtomTable.fresh.Goals as goal
 
 pub of_atoms-requires-clause-sound : goal.of_atoms-requires-clause-sound
-of_atoms-requires-clause-sound c = subst (λ a. Sound (a ∷ []) 1 0) (sym (is_blank c.default.result c.default.ensures)) blank_sound
+of_atoms-requires-clause-sound c = one_sound _ c.default.ensures.1
