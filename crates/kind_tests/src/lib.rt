@@ -6,6 +6,8 @@ mod code_points;
 #[cfg(test)]
 mod events;
 #[cfg(test)]
+mod sets;
+#[cfg(test)]
 mod tables;
 #[cfg(test)]
 mod tags;

@@ -2,6 +2,7 @@
 use labels::kind::{AddFault, LabelKind, NarrowKind};
 use labels::set::GuardSet;
 use labels::tags::{Tag, Tags};
+use std::test::Fail;
 
 #[test]
 fn labels_end_at_63(rt: HostRuntime) {
@@ -47,4 +48,16 @@ fn refusals_have_numbers(rt: HostRuntime) {
     assert_eq!(rt; AddFault::Guard.number(), 10);
     assert_eq!(rt; AddFault::Value.number(), 11);
     assert_eq!(rt; AddFault::Full.number(), 12);
+}
+
+#[test]
+fn refusals_print_themselves(rt: HostRuntime) -> Result<(), Fail> {
+    let heap = rt.alloc();
+    let guard = AddFault::Guard.to_string(heap)?;
+    assert_eq!(rt; guard.as_str(), "the guard's number is above 31");
+    let value = AddFault::Value.to_string(heap)?;
+    assert_eq!(rt; value.as_str(), "the value is not of the kind's form");
+    let full = AddFault::Full.to_string(heap)?;
+    assert_eq!(rt; full.as_str(), "there is no place for one more value");
+    Ok(())
 }
