@@ -32,9 +32,8 @@ impl<M: TreeAutomaton> Partitioned<'_, M> {
     {
         let r = self.representative(found.state);
         let kept = self.answer(found.test, r);
-        // by index: of a loop over `iter_mut().enumerate()` a proof learns nothing of the entries
-        for p in 0..next.len() {
-            next[p] = self.moved(found.test, r, kept, p);
+        for (p, class) in next.iter_mut().enumerate() {
+            *class = self.moved(found.test, r, kept, p);
         }
     }
 }
