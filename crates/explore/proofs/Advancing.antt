@@ -83,8 +83,8 @@ module _ {E : Type 0} (S : Steps E) (s : Numbering E) (cells : List ℕ) (r : Ro
   tries_on (Err full) t after tried = subst (λ x. MoreThan x S) tried.1 (too_many way (over c a) (turn_below r c a s.len way.ordered.1 turn) (allowed_label S.atoms c a label) (turn_key r c a turn way) (missing tried.0))
 
 -- from where the labels began
-pub label_on : {E : Type 0} (S : Steps E) (s t : Numbering E) (cells : List ℕ) (r : Round) (c : Children) (a : ℕ) → Turn r c → r.start ≤ s.len → Stands S t cells r (count c) (left c) (right c) a → Grows s t → a < S.atoms → (e : E) → e ≡ apply S (entry_at S s.entries.now) (over c a) → (answer : Result (Unit {0}) Full) (u : Numbering E) (after : List ℕ) → Tries t cells (over c a) e answer u after → GoesOn S s r answer u after (count c) (left c) (right c) (a + 1)
-label_on S s t cells r c a turn known stands g label e is answer u after tried =
+pub label_on : {E : Type 0} {S : Steps E} {s t : Numbering E} {cells : List ℕ} {r : Round} (c : Children) (a : ℕ) → Turn r c → r.start ≤ s.len → Stands S t cells r (count c) (left c) (right c) a → Grows s t → a < S.atoms → (e : E) → e ≡ apply S (entry_at S s.entries.now) (over c a) → (answer : Result (Unit {0}) Full) (u : Numbering E) (after : List ℕ) → Tries t cells (over c a) e answer u after → GoesOn S s r answer u after (count c) (left c) (right c) (a + 1)
+label_on {S = S} {s = s} {t = t} {cells = cells} {r = r} c a turn known stands g label e is answer u after tried =
     let same = apply_same S s.len (entry_at S t.entries.now) (entry_at S s.entries.now) (λ k h. g.kept k (S.none 0) h) (over c a) (turn_below r c a s.len known turn) in
     goes_more S s t r answer u after (count c) (left c) (right c) (a + 1) g (tries_on S t cells r c a turn stands label e (is ∙ sym same) answer u after tried)
 

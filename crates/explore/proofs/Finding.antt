@@ -6,6 +6,7 @@ use Rattle.trees.specs.Rounds.{Combination, nullary, unary, binary, step, Allowe
 use Rattle.trees.proofs.Running
 use Rattle.explore.specs.Steps.{Steps, apply, letters}
 use Rattle.explore.specs.Rounds.{InRound, Found, MoreThan}
+use Rattle.explore.proofs.Progress.{with_last, last_old, last_new}
 use Rattle.explore.proofs.Positions.{found_in, found_new}
 
 -- ---- the end of the last round
@@ -91,22 +92,11 @@ module _ {E : Type 0} {S : Steps E} {entry : ℕ → E} {first : ℕ → Combina
 -- ---- one thing more than there are places
 
 module _ {E : Type 0} {S : Steps E} {entry : ℕ → E} {first : ℕ → Combination} {n old start children p q a : ℕ} (w : InRound S entry first n old start children p q a) (c : Combination) (b : Below n c) (l : Allowed (letters S.atoms) c) (turn : key w.round c ≡ w.this ∷ children ∷ p ∷ q ∷ a ∷ []) (new : (k : ℕ) → k < n → entry k ≡ apply S entry c → ⊥) where
-  with_last : {X : Type 0} → (ℕ → X) → X → ℕ → X
-  with_last f x k = cond (eqb k n) x (f k)
-
-  last_old : {X : Type 0} (f : ℕ → X) (x : X) (k : ℕ) → k < n → with_last f x k ≡ f k
-  unfolding with_last
-  last_old f x k h = cond-false (eqb k n) x (f k) (ne_eqb k n (omega arith))
-
-  last_new : {X : Type 0} (f : ℕ → X) (x : X) → with_last f x n ≡ x
-  unfolding with_last
-  last_new f x = cond-true (eqb n n) x (f n) (eq-eqb n n refl)
-
   pub too_many : MoreThan n S
   too_many =
-      let e = with_last entry (apply S entry c) in
-      let f = with_last first c in
-      let way = (found_new w c b l turn e f (last_old entry (apply S entry c)) (last_new entry (apply S entry c)) (last_old first c) (last_new first c) new).way in
+      let e = with_last n entry (apply S entry c) in
+      let f = with_last n first c in
+      let way = (found_new w c b l turn e f (last_old n entry (apply S entry c)) (last_new n entry (apply S entry c)) (last_old n first c) (last_new n first c) new).way in
       record {
         entry = e;
         first = f;

@@ -4,7 +4,7 @@ use Rattle.std.proofs.lemmas.Bool.{cases_lt, ltb-true}
 use Rattle.trees.specs.Rounds.{Combination, nullary, unary, binary, Allowed, Below, round_of, key, Less}
 use Rattle.explore.specs.Steps.{Steps, apply, letters}
 use Rattle.explore.specs.Rounds.{InRound}
-use Rattle.explore.proofs.Progress.{skip, again, fresh, round', round_old, round_new}
+use Rattle.explore.proofs.Progress.{skip, again, fresh, with_last, last_old, last_new}
 
 -- before anything has been tried
 pub begin : {E : Type 0} (S : Steps E) (entry : ℕ → E) (first : ℕ → Combination) → InRound S entry first 0 0 0 0 0 0 0
@@ -181,19 +181,16 @@ module _ {E : Type 0} {S : Steps E} {entry : ℕ → E} {first : ℕ → Combina
     }
 
     module _ (entry' : ℕ → E) (first' : ℕ → Combination) (entries : (k : ℕ) → k < n → entry' k ≡ entry k) (entered : entry' n ≡ apply S entry c) (firsts : (k : ℕ) → k < n → first' k ≡ first k) (firsted : first' n ≡ c) (new : (k : ℕ) → k < n → entry k ≡ apply S entry c → ⊥) where
-      later : ℕ → ℕ
-      later = round' S entry first n w.round c (w.this ∷ children ∷ p ∷ q ∷ []) a b l turn w.way entry' first' entries entered firsts firsted new
+      abbrev later : ℕ → ℕ
+      later = with_last n w.round (round_of w.round c)
 
       same : (k : ℕ) → k < n → later k ≡ w.round k
-      unfolding later
-      same = round_old S entry first n w.round c (w.this ∷ children ∷ p ∷ q ∷ []) a b l turn w.way entry' first' entries entered firsts firsted new
+      same = last_old n w.round (round_of w.round c)
 
       latest : later n ≡ w.this
-      unfolding later
-      latest = round_new S entry first n w.round c (w.this ∷ children ∷ p ∷ q ∷ []) a b l turn w.way entry' first' entries entered firsts firsted new ∙ turn_round c turn
+      latest = last_new n w.round (round_of w.round c) ∙ turn_round c turn
 
       pub found_new : InRound S entry' first' (n + 1) old start children p q (a + 1)
-      unfolding later
       found_new = record {
         round = later;
         this = w.this;

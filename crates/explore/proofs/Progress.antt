@@ -23,6 +23,20 @@ less_next (y ∷ ys) a [] e h = absurd h
 less_next (y ∷ ys) a (x ∷ xs) e h =
     ⊎_elim (λ lt. inl (inl lt)) (λ p. ⊎_elim (λ l. inl (inr (p.0, l))) (λ l. inr (ap₂ ◌∷◌ p.0 l)) (less_next ys a xs (omega arith) p.1)) h
 
+-- ---- one more number
+
+-- f, and x at n
+pub with_last : {X : Type 0} → ℕ → (ℕ → X) → X → ℕ → X
+with_last n f x k = cond (eqb k n) x (f k)
+
+pub last_old : {X : Type 0} (n : ℕ) (f : ℕ → X) (x : X) (k : ℕ) → k < n → with_last n f x k ≡ f k
+unfolding with_last
+last_old n f x k h = cond-false (eqb k n) x (f k) (ne_eqb k n (omega arith))
+
+pub last_new : {X : Type 0} (n : ℕ) (f : ℕ → X) (x : X) → with_last n f x n ≡ x
+unfolding with_last
+last_new n f x = cond-true (eqb n n) x (f n) (eq-eqb n n refl)
+
 -- ---- what a combination leads to goes by its own states
 
 pub apply_same : {E : Type 0} (S : Steps E) (n : ℕ) (e f : ℕ → E) → ((k : ℕ) → k < n → e k ≡ f k) → (c : Combination) → Below n c → apply S e c ≡ apply S f c
@@ -91,16 +105,14 @@ module _ {E : Type 0} (S : Steps E) (entry : ℕ → E) (first : ℕ → Combina
 
   -- it leads to something new
   module _ (entry' : ℕ → E) (first' : ℕ → Combination) (entries : (k : ℕ) → k < n → entry' k ≡ entry k) (entered : entry' n ≡ apply S entry c) (firsts : (k : ℕ) → k < n → first' k ≡ first k) (firsted : first' n ≡ c) (new : (k : ℕ) → k < n → entry k ≡ apply S entry c → ⊥) where
-    pub round' : ℕ → ℕ
-    round' k = cond (eqb k n) (round_of round c) (round k)
+    abbrev round' : ℕ → ℕ
+    round' = with_last n round (round_of round c)
 
-    pub round_old : (k : ℕ) → k < n → round' k ≡ round k
-    unfolding round'
-    round_old k h = cond-false (eqb k n) (round_of round c) (round k) (ne_eqb k n (omega arith))
+    round_old : (k : ℕ) → k < n → round' k ≡ round k
+    round_old = last_old n round (round_of round c)
 
-    pub round_new : round' n ≡ round_of round c
-    unfolding round'
-    round_new = cond-true (eqb n n) (round_of round c) (round n) (eq-eqb n n refl)
+    round_new : round' n ≡ round_of round c
+    round_new = last_new n round (round_of round c)
 
     old_key : (d : Combination) → Below n d → key round' d ≡ key round d
     old_key = same_key n round' round round_old

@@ -59,7 +59,7 @@ const HINTS: usize = 8192;
 
 const LOOKS: usize = 8;
 
-// The first `len` entries of the lent slice have numbers.
+// The slice is lent at its full length, so `len` says how many of its entries have numbers.
 #[derive(Drop)]
 pub struct Numbering<'e, 'h, E> {
     entries: &'e mut [E],

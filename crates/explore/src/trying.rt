@@ -8,8 +8,8 @@ use crate::entry::Entry;
 use crate::full::Full;
 use crate::numbering::Numbering;
 
-// Stands for an absent child.
-pub const ABSENT: u16 = 0xFFFF;
+// Combinations are kept in lent cells of 16 bits, three for each number. This one stands for an absent child.
+const ABSENT: u16 = 0xFFFF;
 
 // The children of a node, by the numbers of their things.
 #[derive(Clone, Copy)]

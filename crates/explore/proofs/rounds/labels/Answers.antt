@@ -9,11 +9,11 @@ returns-in_err-try_one g c =
     let S = g.S.Stepping.steps c.args.steps.now in
     let a = c.loop-a.a in
     let label : a < S.atoms = omega (arith, c.loop-a-test.true, c.atoms-a-end.ensures) in
-    rw p.1 (label_on S c.args.found.now c.loop-a.found c.loop-a.firsts c.args.round c.args.children a c.requires.turn c.requires.stands.at.ordered.1 c.loop-a.invariant.0 c.loop-a.invariant.1 label c.thing.result (c.requires.leads a c.thing.result label c.thing.ensures) (Err c.in_err-try_one.field-0.0) c.try_one.new.found c.try_one.new.firsts c.in_err-try_one.ensures)
+    rw p.1 (label_on c.args.children a c.requires.turn c.requires.stands.at.ordered.1 c.loop-a.invariant.0 c.loop-a.invariant.1 label c.thing.result (c.requires.leads a c.thing.result label c.thing.ensures) (Err c.in_err-try_one.field-0.0) c.try_one.new.found c.try_one.new.firsts c.in_err-try_one.ensures)
 
 pub loop-a-preserved : goal.loop-a-preserved
 loop-a-preserved g c =
     let S = g.S.Stepping.steps c.args.steps.now in
     let a = c.loop-a.a in
     let label : a < S.atoms = omega (arith, c.loop-a-test.true, c.atoms-a-end.ensures) in
-    label_on S c.args.found.now c.loop-a.found c.loop-a.firsts c.args.round c.args.children a c.requires.turn c.requires.stands.at.ordered.1 c.loop-a.invariant.0 c.loop-a.invariant.1 label c.thing.result (c.requires.leads a c.thing.result label c.thing.ensures) (Ok c.in_ok-try_one.field-0) c.try_one.new.found c.try_one.new.firsts c.in_ok-try_one.ensures
+    label_on c.args.children a c.requires.turn c.requires.stands.at.ordered.1 c.loop-a.invariant.0 c.loop-a.invariant.1 label c.thing.result (c.requires.leads a c.thing.result label c.thing.ensures) (Ok c.in_ok-try_one.field-0) c.try_one.new.found c.try_one.new.firsts c.in_ok-try_one.ensures
