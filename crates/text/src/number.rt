@@ -32,6 +32,7 @@ fn digits_after(base: u32, before: u32, word: &[u8]) -> Option<u32>
 }
 
 // The number of a word that starts with the digit `first`, from 1 to 9.
+#[tactic(auto, using(crate::proofs::Reading::longer_word))]
 fn longer(first: u8, rest: &[u8]) -> Option<u32>
     requires { (49 ≤ first) × (first ≤ 57) }
     ensures { SomeIff result (Numeral (first ∷ rest.now)) (digits_value 10 (first ∷ rest.now)) }
