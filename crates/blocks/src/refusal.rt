@@ -1,7 +1,9 @@
 // Why a text is refused.
 ghost use Rattle.std.specs.Prelude.{◌≡◌};
-ghost use Rattle.blocks.specs.declared.refusal.Stop.TheVariants.{Memory};
+ghost use Rattle.blocks.specs.declared.refusal.Refusal.TheVariants.{TooManyAtoms as TooMany};
+ghost use Rattle.blocks.specs.declared.refusal.Stop.TheVariants.{Refused, Memory};
 
+use atoms::fault::TooManyAtoms;
 use std::alloc::AllocError;
 
 // Each case with the number of the text line, where it has one.
@@ -27,13 +29,29 @@ pub enum Refusal {
 #[derive(Clone, Copy)]
 pub enum Stop {
     Refused(Refusal),
-    Memory,
+    Memory(AllocError),
+}
+
+impl From<Refusal> for Stop {
+    ghost from_gives = { λ refusal r. r ≡ Refused refusal };
+
+    fn from(refusal: Refusal) -> Stop {
+        Stop::Refused(refusal)
+    }
+}
+
+impl From<TooManyAtoms> for Stop {
+    ghost from_gives = { λ _ r. r ≡ Refused TooMany };
+
+    fn from(_fault: TooManyAtoms) -> Stop {
+        Stop::Refused(Refusal::TooManyAtoms)
+    }
 }
 
 impl From<AllocError> for Stop {
-    ghost from_gives = { λ _ r. r ≡ Memory };
+    ghost from_gives = { λ error r. r ≡ Memory error };
 
-    fn from(_e: AllocError) -> Stop {
-        Stop::Memory
+    fn from(error: AllocError) -> Stop {
+        Stop::Memory(error)
     }
 }
