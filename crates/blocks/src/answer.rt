@@ -6,7 +6,7 @@ ghost use Rattle.blocks.specs.Reading.{Reads};
 ghost use Rattle.blocks.specs.Rows.{Held, Stops};
 
 use crate::guards::take_rows;
-use crate::print::{print_refusal, print_table};
+use crate::print::print_table;
 use crate::refusal::{Refusal, Stop};
 use crate::rows::Readable;
 use atoms::find::atoms;
@@ -72,9 +72,8 @@ fn report(heap: Global, text: &[u8]) -> Result<String, Stop>
 pub fn answer(heap: Global, text: &[u8]) -> Result<String, AllocError>
     ensures { IfOk result (λ s. Answers text.now (string_bytes s)) }
 {
-    match report(heap, text) {
-        Ok(out) => Ok(out),
-        Err(Stop::Refused(refusal)) => print_refusal(heap, refusal),
-        Err(Stop::Memory(error)) => Err(error),
-    }
+    report(heap, text).or_else(|stop| match stop {
+        Stop::Refused(refusal) => format!(in heap; "{refusal}"),
+        Stop::Memory(error) => Err(error),
+    })
 }

@@ -115,8 +115,5 @@ impl Readable for EventWords {
 fn pattern_text(heap: Global, word: &[u8]) -> Result<String, AllocError>
     ensures { IfOk result (λ t. SamePattern (string_bytes t) word.now) }
 {
-    match std::str::from_utf8(word) {
-        Ok(text) => String::from_str(heap, text),
-        Err(_) => Ok(String::new(heap)),
-    }
+    String::from_str(heap, std::str::from_utf8(word).unwrap_or_default())
 }
