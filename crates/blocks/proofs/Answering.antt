@@ -1,11 +1,11 @@
 -- From the lines of a guard block to what is printed.
-use Rattle.std.proofs.Common.{◌≡◌, ℕ, List, [], Some, None, Ok, Err, Option, Result, sym, refl, ap, ◌∙◌, subst, MatchResult}
+use Rattle.std.proofs.Common.{◌≡◌, ℕ, List, [], Some, None, Ok, Err, Option, Result, sym, refl, ap, ◌∙◌, subst, String}
 use Rattle.labels.specs.Meaning.{Meaning, Fresh}
 use Rattle.atoms.specs.Atoms.{MoreThan}
 use Rattle.atoms.specs.Tables.{TableOf}
 use Rattle.atoms.specs.declared.table.AtomTable.{AtomTable}
 use Rattle.text.specs.Tokens.{Sign}
-use Rattle.blocks.specs.Answers.{Named, Says, Says.named, Says.unnamed, Declines, Tabulates}
+use Rattle.blocks.specs.Answers.{Named, Says, Says.named, Says.unnamed, Declines, Tabulates, Gives}
 use Rattle.blocks.specs.Printing.{table_text}
 use Rattle.blocks.specs.Reading.{Outcome, Outcome.book, Outcome.refused, Reads, Reads.all, Reads.bad}
 use Rattle.blocks.specs.Rows.{Format, Format.ranges, Format.tags, Format.patterns, Stops, label_of}
@@ -17,7 +17,7 @@ module _ (f : Format) (m : Meaning) (ss : List Sign) (bad-line : Option ℕ) whe
   -- a line was refused
   pub rows_declined : (s : Stop) → Stops (λ x. (b : Option ℕ) → Reads f m 0 ss b (refused x)) s → Stops (λ x. (o : Outcome) × Reads f m 0 ss bad-line o × Declines o x) s
   rows_declined (Refused x) h = (refused x, h bad-line, refl)
-  rows_declined Memory h = tt
+  rows_declined (Memory error) h = tt
 
   module _ (k : Meaning) (c : ℕ) (goes_on : (b : Option ℕ) (o : Outcome) → Reads f k c [] b o → Reads f m 0 ss b o) where
     pub bad_declined : (n : ℕ) → bad-line ≡ Some n → (o : Outcome) × Reads f m 0 ss bad-line o × Declines o (Line n)
@@ -34,11 +34,11 @@ module _ (f : Format) (m : Meaning) (ss : List Sign) (bad-line : Option ℕ) whe
 
 -- ---- the whole block
 
-module _ {A : Type 0} (bytes : A → List ℕ) (b : Option ℕ) {f : Format} {m : Meaning} {ss rest : List Sign} (n : Named f ss rest) (fresh : Fresh m (label_of f)) where
-  pub block_said : (r : Result A Stop) → MatchResult r (λ s. (o : Outcome) × Reads f m 0 rest b o × Tabulates o (bytes s)) (Stops (λ x. (o : Outcome) × Reads f m 0 rest b o × Declines o x)) → MatchResult r (λ s. (o : Outcome) × Says ss b o × Tabulates o (bytes s)) (Stops (λ x. (o : Outcome) × Says ss b o × Declines o x))
+module _ {Z : Type 0} (b : Option ℕ) {f : Format} {m : Meaning} {ss rest : List Sign} (n : Named f ss rest) (fresh : Fresh m (label_of f)) where
+  pub block_said : (r : Result (String Z) Stop) → Gives r (Reads f m 0 rest b) → Gives r (Says ss b)
   block_said (Ok s) h = (h.0, named n fresh h.1, h.2)
   block_said (Err (Refused x)) h = (h.0, named n fresh h.1, h.2)
-  block_said (Err Memory) h = tt
+  block_said (Err (Memory error)) h = tt
 
 no_names : (ss : List Sign) → ((rest : List Sign) → Named ranges ss rest → ⊥) → ((rest : List Sign) → Named tags ss rest → ⊥) → ((rest : List Sign) → Named patterns ss rest → ⊥) → (f : Format) (rest : List Sign) → Named f ss rest → ⊥
 no_names ss p q r ranges = p

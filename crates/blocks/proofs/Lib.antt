@@ -1,4 +1,5 @@
 pub mod Cutting
+pub mod Stopping
 pub mod Taking
 pub mod Writing
 pub mod Reading

@@ -23,4 +23,4 @@ module _ {V : Type 0} (f : Format) (m : Meaning) (whole : List Sign) where
 
   pub one_refused : (b : Book V) (ss : List Sign) (s : Sofar f m whole b ss) (x : Stop) → Stops (Refuses f s.count ss) x → Stops (λ y. (e : Option ℕ) → Reads f m 0 whole e (refused y)) x
   one_refused b ss s (Refused y) h = λ e. s.goes_on e (refused y) (refuses h)
-  one_refused b ss s Memory h = tt
+  one_refused b ss s (Memory error) h = tt

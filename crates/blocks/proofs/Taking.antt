@@ -43,7 +43,7 @@ module _ {V : Type 0} {f : Format} {ss rest : List Sign} {n g : ℕ} (b : Book V
 
   pub row_stopped : (s : Stop) → Stops (CannotAdd b g v n) s → Stops (Refuses f c ss) s
   row_stopped (Refused x) h = row_refused x h
-  row_stopped Memory h = tt
+  row_stopped (Memory error) h = tt
 
 unread_refused : (f : Format) (c : ℕ) (ss : List Sign) (x : Refusal) → Unread f ss x → Refuses f c ss x
 unread_refused f c ss TooLong h = h
@@ -56,7 +56,7 @@ unread_refused f c ss TooManyAtoms h = h
 
 pub unread_stopped : (f : Format) (c : ℕ) (ss : List Sign) (s : Stop) → Stops (Unread f ss) s → Stops (Refuses f c ss) s
 unread_stopped f c ss (Refused x) h = unread_refused f c ss x h
-unread_stopped f c ss Memory h = tt
+unread_stopped f c ss (Memory error) h = tt
 
 -- what is written goes by the kind's own form and labels
 pub writes_by : {V : Type 0} {f : Format} {ss rest : List Sign} {n g : ℕ} (b : Book V) (form : V → Bool) (has : V → ℕ → Bool) (v : V) → b.formed ≡ form → b.labels ≡ has → Writes f ss n g (form v) (has v) rest → Writes f ss n g (b.formed v) (b.labels v) rest

@@ -1,8 +1,9 @@
 -- Rows and the values that their words write.
-use Rattle.std.proofs.Common.{◌≡◌, ℕ, ◌<◌, Bool, true, false, ◌&&◌, ◌||◌, eqb, ltb, leb, List, [], ◌∷◌, length, IsUtf8, sym, refl, ap, ◌∙◌, ⊎_elim, arith}
+use Rattle.std.proofs.Common.{◌≡◌, ℕ, ◌<◌, Bool, true, false, ◌&&◌, ◌||◌, eqb, ltb, leb, List, [], ◌∷◌, length, IsUtf8, Ok, Err, Result, Bor, MatchResult, sym, refl, ap, ◌∙◌, ⊎_elim, arith}
 use Rattle.std.proofs.ByRecursion.{IsAscii-from_all}
 use Rattle.std.proofs.lemmas.Str.{IsUtf8-from_ascii}
 use Rattle.std.proofs.lemmas.Bool.{and_parts, or_cases, eqb-true, cases_Bool}
+use Rattle.std.specs.Result.{ResultUnwrapsOrElse}
 use Rattle.std.specs.Str.Parse.{digits_value}
 use Rattle.std.specs.List.{AllByRecursion}
 use Rattle.labels.specs.Patterns.{sign, signs, pattern_formed, matches}
@@ -64,7 +65,7 @@ signs_ascii (c ∷ cs) h =
     let at : (n : ℕ) → n < 128 → eqb c n ≡ true → c < 128 = λ n l e. let same = eqb-true c n e in omega arith in
     (⊎_elim (at 48 (omega arith)) (λ t. ⊎_elim (at 49 (omega arith)) (at 45 (omega arith)) (or_cases (eqb c 49) (eqb c 45) t)) (or_cases (eqb c 48) (eqb c 49 || eqb c 45) parts.0), signs_ascii cs parts.1)
 
-pub no_text_no_pattern : (s w : List ℕ) → s ≡ [] → (IsUtf8 w → ⊥) → SamePattern s w
+no_text_no_pattern : (s w : List ℕ) → s ≡ [] → (IsUtf8 w → ⊥) → SamePattern s w
 no_text_no_pattern s w none bad =
     let empty : pattern_formed s ≡ false = ap pattern_formed none in
     record {
@@ -74,3 +75,11 @@ no_text_no_pattern s w none bad =
   where
     both : true ≡ false → ⊥
     both z = let n : ◌≡◌ {A = ℕ} 0 1 = cc in omega arith
+
+same_pattern : (s w : List ℕ) → s ≡ w → SamePattern s w
+same_pattern s w e = record { form = ap pattern_formed e; same = λ _. e }
+
+-- the word as text, or the empty text where it is none
+pub text_pattern : {E : Type 0} (V : E → Type 0) (w : List ℕ) (r : Result (Bor (List ℕ)) E) (u : Bor (List ℕ)) → MatchResult r (λ s. (s.now ≡ w) × IsUtf8 w) (λ e. (IsUtf8 w → ⊥) × V e) → ResultUnwrapsOrElse r (λ d. d.now ≡ []) u → SamePattern u.now w
+text_pattern V w (Ok s) u told is = same_pattern u.now w (ap (λ s. s.now) is ∙ told.0)
+text_pattern V w (Err e) u told none = no_text_no_pattern u.now w none told.0

@@ -1,13 +1,14 @@
 -- What a text is answered.
-use Rattle.std.specs.Prelude.{◌≡◌, ℕ, ◌<◌, ◌≤◌, ◌⊎◌, List, [], ◌++◌, length, codes, Option}
+use Rattle.std.specs.Prelude.{◌≡◌, ℕ, ◌<◌, ◌≤◌, ◌⊎◌, List, [], ◌++◌, length, codes, Option, Result, String, string_bytes, MatchResult}
 use Rattle.labels.specs.Meaning.{Meaning, Fresh}
 use Rattle.atoms.specs.Atoms.{Lists, MoreThan}
 use Rattle.atoms.specs.declared.atom.Atom.{Atom}
 use Rattle.text.specs.Tokens.{Sign, Scanned}
 use Rattle.blocks.specs.Printing.{table_text, refusal_text}
 use Rattle.blocks.specs.Reading.{Outcome, Outcome.book, Outcome.refused, Reads}
-use Rattle.blocks.specs.Rows.{Format, Format.ranges, Format.tags, Format.patterns, label_of, row}
+use Rattle.blocks.specs.Rows.{Format, Format.ranges, Format.tags, Format.patterns, Stops, label_of, row}
 use Rattle.blocks.specs.declared.refusal.Refusal.{Refusal}
+use Rattle.blocks.specs.declared.refusal.Stop.{Stop}
 use Rattle.blocks.specs.declared.refusal.Refusal.TheVariants.{TooLong, Line, TooManyAtoms}
 
 -- the names of the value's columns
@@ -43,6 +44,10 @@ Declines (book m) x = MoreThan 16 m × (x ≡ TooManyAtoms)
 abbrev pub Tabulates : Outcome → List ℕ → Type 0
 Tabulates (refused y) out = ⊥
 Tabulates (book m) out = (xs : List Atom) × (c : ℕ) × Lists m xs c × (c ≤ 16) × (out ≡ table_text xs m.guards c)
+
+-- the table of an outcome with the property P, or its refusal
+abbrev pub Gives : {Z : Type 0} → Result (String Z) Stop → (Outcome → Type 0) → Type 0
+Gives r P = MatchResult r (λ s. (o : Outcome) × P o × Tabulates o (string_bytes s)) (Stops (λ x. (o : Outcome) × P o × Declines o x))
 
 -- a text of at most 32,768 bytes has an outcome with the property P
 pub record Spoken (text : List ℕ) (P : Outcome → Type 0) : Type 0 where

@@ -116,7 +116,7 @@ Held f b c = (gs : List ℕ) (g : ℕ) → b.full gs g ≡ not (room f (c + leng
 -- what stopped a reading, where it is not want of memory
 abbrev pub Stops : (Refusal → Type 0) → Stop → Type 0
 Stops P (Refused x) = P x
-Stops P Memory = Unit {0}
+Stops P (Memory error) = Unit {0}
 
 -- a guard can be given a value
 pub record CanAdd {V : Type 0} (b : Book V) (g : ℕ) (v : V) : Type 0 where

@@ -1,13 +1,12 @@
 // The answer to a text.
 ghost use Rattle.std.specs.Prelude.{map, IfOk, string_bytes, MatchResult};
 ghost use Rattle.text.specs.Tokens.{sign_of};
-ghost use Rattle.blocks.specs.Answers.{Answers, Says, Spoken, Refusing, Declines, Tabulates};
-ghost use Rattle.blocks.specs.Reading.{Outcome, Reads};
+ghost use Rattle.blocks.specs.Answers.{Answers, Says, Spoken, Refusing, Tabulates, Gives};
+ghost use Rattle.blocks.specs.Reading.{Reads};
 ghost use Rattle.blocks.specs.Rows.{Held, Stops};
 
 use crate::guards::take_rows;
-use crate::names::{pattern_names, range_names, tag_names};
-use crate::print::{print_refusal, print_table};
+use crate::print::print_table;
 use crate::refusal::{Refusal, Stop};
 use crate::rows::Readable;
 use atoms::find::atoms;
@@ -28,31 +27,30 @@ fn table_of<K: Readable + Drop>(
 where
     K::Value: Drop,
     requires { Held K.Readable.format (K.LabelKind.book kind) 0 }
-    ensures { MatchResult result (λ s. (o : Outcome) × Reads K.Readable.format (K.LabelKind.book kind).meaning 0 (map sign_of tokens.now) bad o × Tabulates o (string_bytes s)) (Stops (λ x. (o : Outcome) × Reads K.Readable.format (K.LabelKind.book kind).meaning 0 (map sign_of tokens.now) bad o × Declines o x)) }
+    ensures { Gives result (Reads K.Readable.format (K.LabelKind.book kind).meaning 0 (map sign_of tokens.now) bad) }
 {
     take_rows(heap, &mut kind, tokens)?;
     if let Some(line) = bad {
         return Err(Stop::Refused(Refusal::Line(line)));
     }
     let mut table = AtomTable::fresh();
-    match atoms(&kind, &mut table) {
-        Ok(_) => Ok(print_table(heap, &table)?),
-        Err(_) => Err(Stop::Refused(Refusal::TooManyAtoms)),
-    }
+    atoms(&kind, &mut table)?;
+    Ok(print_table(heap, &table)?)
 }
 
-// What the tokens of a guard block say; `bad` is the number of the bad line behind them.
-fn say(heap: Global, tokens: &[Token<'_>], bad: Option<u32>) -> Result<String, Stop>
-    ensures { MatchResult result (λ s. (o : Outcome) × Says (map sign_of tokens.now) bad o × Tabulates o (string_bytes s)) (Stops (λ x. (o : Outcome) × Says (map sign_of tokens.now) bad o × Declines o x)) }
+// What a scanned text says, from its names line on.
+fn say(heap: Global, text: &ScannedText<'_>) -> Result<String, Stop>
+    ensures { Gives result (Says (map sign_of text.now.tokens.items) text.now.bad) }
 {
-    if let Some(rest) = range_names(tokens) {
-        return table_of(heap, CodePoints::new(heap)?, rest, bad);
+    let tokens = text.tokens.as_slice();
+    if let Some(rows) = CodePoints::behind_names(tokens) {
+        return table_of(heap, CodePoints::new(heap)?, rows, text.bad);
     }
-    if let Some(rest) = tag_names(tokens) {
-        return table_of(heap, Tags::new(), rest, bad);
+    if let Some(rows) = Tags::behind_names(tokens) {
+        return table_of(heap, Tags::new(), rows, text.bad);
     }
-    if let Some(rest) = pattern_names(tokens) {
-        return table_of(heap, EventWords::new(heap)?, rest, bad);
+    if let Some(rows) = EventWords::behind_names(tokens) {
+        return table_of(heap, EventWords::new(heap)?, rows, text.bad);
     }
     Err(Stop::Refused(Refusal::Line(1)))
 }
@@ -67,17 +65,15 @@ fn report(heap: Global, text: &[u8]) -> Result<String, Stop>
     if text.len() > LIMIT {
         return Err(Stop::Refused(Refusal::TooLong));
     }
-    let ScannedText { tokens, bad } = scan(heap, text)?;
-    say(heap, &tokens, bad)
+    say(heap, &scan(heap, text)?)
 }
 
 // What is printed for a text: the table of the atoms of its guard book, or a refusal.
 pub fn answer(heap: Global, text: &[u8]) -> Result<String, AllocError>
     ensures { IfOk result (λ s. Answers text.now (string_bytes s)) }
 {
-    match report(heap, text) {
-        Ok(out) => Ok(out),
-        Err(Stop::Refused(refusal)) => print_refusal(heap, refusal),
-        Err(Stop::Memory) => Err(AllocError),
-    }
+    report(heap, text).or_else(|stop| match stop {
+        Stop::Refused(refusal) => format!(in heap; "{refusal}"),
+        Stop::Memory(error) => Err(error),
+    })
 }

@@ -22,7 +22,6 @@ where
     ensures { (c : ℕ) → Held K.Readable.format (K.LabelKind.book kind.old) c → MatchResult result (λ next. (next ≤ length tokens.now) × (at < next) × (Takes K.Readable.format (K.LabelKind.book kind.old).meaning c (map sign_of (drop at tokens.now)) (K.LabelKind.book kind.new).meaning (map sign_of (drop next tokens.now)) × Held K.Readable.format (K.LabelKind.book kind.new) (c + 1))) (Stops (Refuses K.Readable.format c (map sign_of (drop at tokens.now)))) }
 {
     let row = K::read_row(heap, &tokens[at..])?;
-    kind.plain();
     add_at(kind, row.guard, &row.value, row.line)?;
     Ok(tokens.len() - row.rest.len())
 }
@@ -34,6 +33,7 @@ where
     requires { Held K.Readable.format (K.LabelKind.book kind.old) 0 }
     ensures { MatchResult result (λ _. (c : ℕ) × ((b : Option ℕ) (o : Outcome) → Reads K.Readable.format (K.LabelKind.book kind.new).meaning c [] b o → Reads K.Readable.format (K.LabelKind.book kind.old).meaning 0 (map sign_of tokens.now) b o)) (Stops (λ x. (b : Option ℕ) → Reads K.Readable.format (K.LabelKind.book kind.old).meaning 0 (map sign_of tokens.now) b (refused x))) }
 {
+    // By a place: the borrow checker covers no loop that carries the rest of a slice of tokens.
     let mut at = 0;
     while at < tokens.len() {
         at = take_row(heap, kind, tokens, at)?;

@@ -1,5 +1,5 @@
 // How each kind's values are written in a line.
-ghost use Rattle.std.specs.Prelude.{◌≡◌, IfOk, string_bytes, ◌==◌, nat_lt};
+ghost use Rattle.std.specs.Prelude.{◌≡◌, refl, IfOk, string_bytes, ◌==◌, nat_lt};
 ghost use Rattle.labels.specs.Patterns.{pattern_formed, matches};
 ghost use Rattle.labels.specs.Ranges.{range_formed, in_range};
 ghost use Rattle.blocks.specs.Rows.{Format.ranges, Format.tags, Format.patterns, SamePattern};
@@ -23,21 +23,18 @@ impl Readable for Tags {
 
     ghost labels = { λ v x. (x == v.0) };
 
-    fn plain(&self) {}
+    fn behind_names<'t, 'a>(tokens: &'t [Token<'a>]) -> Option<&'t [Token<'a>]> {
+        let row = cut_two(tokens)?;
+        (row.words == (b"guard".as_slice(), b"tag".as_slice())).then_some(row.rest)
+    }
 
     fn read_row<'t, 'a>(
         _heap: Global,
         tokens: &'t [Token<'a>],
     ) -> Result<ValueRow<'t, 'a, Tag>, Stop> {
-        let Some(row) = cut_two(tokens) else {
-            return Err(Stop::Refused(Refusal::Line(first_line(tokens))));
-        };
-        let Some(guard) = number(row.first) else {
-            return Err(Stop::Refused(Refusal::Word(row.line)));
-        };
-        let Some(tag) = number(row.second) else {
-            return Err(Stop::Refused(Refusal::Word(row.line)));
-        };
+        let row = cut_two(tokens).ok_or(Refusal::Line(first_line(tokens)))?;
+        let guard = number(row.words.0).ok_or(Refusal::Word(row.line))?;
+        let tag = number(row.words.1).ok_or(Refusal::Word(row.line))?;
         Ok(ValueRow {
             guard,
             value: Tag(tag),
@@ -45,6 +42,8 @@ impl Readable for Tags {
             rest: row.rest,
         })
     }
+
+    ghost plain = { λ _. (refl, refl) };
 }
 
 // A guard and the two ends of a range.
@@ -55,24 +54,21 @@ impl Readable for CodePoints {
 
     ghost labels = { in_range };
 
-    fn plain(&self) {}
+    fn behind_names<'t, 'a>(tokens: &'t [Token<'a>]) -> Option<&'t [Token<'a>]> {
+        let row = cut_three(tokens)?;
+        (row.words == (b"guard".as_slice(), b"low".as_slice(), b"high".as_slice())).then_some(
+            row.rest,
+        )
+    }
 
     fn read_row<'t, 'a>(
         _heap: Global,
         tokens: &'t [Token<'a>],
     ) -> Result<ValueRow<'t, 'a, Range>, Stop> {
-        let Some(row) = cut_three(tokens) else {
-            return Err(Stop::Refused(Refusal::Line(first_line(tokens))));
-        };
-        let Some(guard) = number(row.first) else {
-            return Err(Stop::Refused(Refusal::Word(row.line)));
-        };
-        let Some(low) = hex_number(row.second) else {
-            return Err(Stop::Refused(Refusal::Word(row.line)));
-        };
-        let Some(high) = hex_number(row.third) else {
-            return Err(Stop::Refused(Refusal::Word(row.line)));
-        };
+        let row = cut_three(tokens).ok_or(Refusal::Line(first_line(tokens)))?;
+        let guard = number(row.words.0).ok_or(Refusal::Word(row.line))?;
+        let low = hex_number(row.words.1).ok_or(Refusal::Word(row.line))?;
+        let high = hex_number(row.words.2).ok_or(Refusal::Word(row.line))?;
         Ok(ValueRow {
             guard,
             value: Range { low, high },
@@ -80,6 +76,8 @@ impl Readable for CodePoints {
             rest: row.rest,
         })
     }
+
+    ghost plain = { λ _. (refl, refl) };
 }
 
 // A guard and a pattern.
@@ -90,19 +88,18 @@ impl Readable for EventWords {
 
     ghost labels = { λ v. matches (string_bytes v) };
 
-    fn plain(&self) {}
+    fn behind_names<'t, 'a>(tokens: &'t [Token<'a>]) -> Option<&'t [Token<'a>]> {
+        let row = cut_two(tokens)?;
+        (row.words == (b"guard".as_slice(), b"pattern".as_slice())).then_some(row.rest)
+    }
 
     fn read_row<'t, 'a>(
         heap: Global,
         tokens: &'t [Token<'a>],
     ) -> Result<ValueRow<'t, 'a, String>, Stop> {
-        let Some(row) = cut_two(tokens) else {
-            return Err(Stop::Refused(Refusal::Line(first_line(tokens))));
-        };
-        let Some(guard) = number(row.first) else {
-            return Err(Stop::Refused(Refusal::Word(row.line)));
-        };
-        let value = pattern_text(heap, row.second)?;
+        let row = cut_two(tokens).ok_or(Refusal::Line(first_line(tokens)))?;
+        let guard = number(row.words.0).ok_or(Refusal::Word(row.line))?;
+        let value = pattern_text(heap, row.words.1)?;
         Ok(ValueRow {
             guard,
             value,
@@ -110,14 +107,13 @@ impl Readable for EventWords {
             rest: row.rest,
         })
     }
+
+    ghost plain = { λ _. (refl, refl) };
 }
 
 // The word as text; a word that is no text is no pattern, as the empty text is none.
 fn pattern_text(heap: Global, word: &[u8]) -> Result<String, AllocError>
     ensures { IfOk result (λ t. SamePattern (string_bytes t) word.now) }
 {
-    match std::str::from_utf8(word) {
-        Ok(text) => String::from_str(heap, text),
-        Err(_) => Ok(String::new(heap)),
-    }
+    String::from_str(heap, std::str::from_utf8(word).unwrap_or_default())
 }

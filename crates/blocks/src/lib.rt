@@ -5,7 +5,6 @@ pub mod answer;
 mod cuts;
 mod guards;
 pub mod kinds;
-mod names;
 mod print;
 pub mod refusal;
 pub mod rows;

@@ -1,7 +1,8 @@
 // The value lines of a guard block.
-ghost use Rattle.std.specs.Prelude.{◌≡◌, ℕ, ◌+◌, ◌<◌, Bool, map, length, MatchResult};
+ghost use Rattle.std.specs.Prelude.{◌≡◌, ℕ, ◌+◌, ◌<◌, Bool, List, map, length, MatchOption, MatchResult};
 ghost use Rattle.labels.specs.Adding.{Added};
-ghost use Rattle.text.specs.Tokens.{sign_of};
+ghost use Rattle.text.specs.Tokens.{Sign, sign_of};
+ghost use Rattle.blocks.specs.Answers.{Named};
 ghost use Rattle.blocks.specs.Rows.{Format, Writes, Unread, Held, Takes, Refuses, Stops, CanAdd, CannotAdd};
 
 use crate::refusal::{Refusal, Stop};
@@ -27,10 +28,9 @@ pub trait Readable: LabelKind {
 
     ghost labels: { Self.Value → ℕ → Bool };
 
-    // Shows that the kind takes values by their form and their labels; does nothing.
-    fn plain(&self)
-        ensures form { (Self.LabelKind.book self.now).formed ≡ formed }
-        ensures labels { (Self.LabelKind.book self.now).labels ≡ labels };
+    // The tokens behind the kind's names line, if they begin with it.
+    fn behind_names<'t, 'a>(tokens: &'t [Token<'a>]) -> Option<&'t [Token<'a>]>
+        ensures { MatchOption result ((ss : List Sign) → Named format (map sign_of tokens.now) ss → ⊥) (λ rest. Named format (map sign_of tokens.now) (map sign_of rest.now)) };
 
     // Reads the first line.
     fn read_row<'t, 'a>(
@@ -39,6 +39,9 @@ pub trait Readable: LabelKind {
     ) -> Result<ValueRow<'t, 'a, Self::Value>, Stop>
         requires { 0 < length tokens.now }
         ensures { MatchResult result (λ p. Writes format (map sign_of tokens.now) p.line p.guard (formed p.value) (labels p.value) (map sign_of p.rest.now)) (Stops (Unread format (map sign_of tokens.now))) };
+
+    // The kind takes values by their form and their labels.
+    ghost plain: { (k : Self) → ((Self.LabelKind.book k).formed ≡ formed) × ((Self.LabelKind.book k).labels ≡ labels) };
 }
 
 // Adds a value that stands in this line.
@@ -50,10 +53,10 @@ pub fn add_at<K: LabelKind>(
 ) -> Result<(), Stop>
     ensures { MatchResult result (λ _. CanAdd (K.LabelKind.book kind.old) guard value.now × Added (K.LabelKind.book kind.old) guard value.now (K.LabelKind.book kind.new)) (Stops (CannotAdd (K.LabelKind.book kind.old) guard value.now line)) }
 {
-    match kind.add(guard, value) {
-        Ok(()) => Ok(()),
-        Err(AddFault::Guard) => Err(Stop::Refused(Refusal::Guard(line))),
-        Err(AddFault::Value) => Err(Stop::Refused(Refusal::Value(line))),
-        Err(AddFault::Full) => Err(Stop::Refused(Refusal::Full(line))),
-    }
+    kind.add(guard, value).map_err(|fault| match fault {
+        AddFault::Guard => Refusal::Guard(line),
+        AddFault::Value => Refusal::Value(line),
+        AddFault::Full => Refusal::Full(line),
+    })?;
+    Ok(())
 }

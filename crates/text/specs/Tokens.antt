@@ -1,6 +1,5 @@
 -- What the tokens of a text are. Assumes nothing.
-use Rattle.std.specs.Prelude.{◌≡◌, ℕ, ◌+◌, ◌<◌, ◌≤◌, List, [], ◌∷◌, ◌++◌, map, length, Some, None, Option, ◌≢◌, slice_index_or}
-use Rattle.std.specs.List.{AllByRecursion}
+use Rattle.std.specs.Prelude.{◌≡◌, ℕ, ◌+◌, ◌<◌, ◌≤◌, List, [], ◌∷◌, ◌++◌, map, length, Some, None, Option, ◌≢◌, slice_index_or, All}
 use Rattle.text.specs.declared.token.Token.{Token}
 use Rattle.text.specs.declared.token.Token.TheVariants.{Word, LineEnd, BlockEnd}
 
@@ -27,11 +26,11 @@ Visible c = (33 ≤ c) × (c ≤ 126)
 
 -- one byte or more
 abbrev pub GoodWord : List ℕ → Type 0
-GoodWord w = (0 < length w) × AllByRecursion Visible w
+GoodWord w = (0 < length w) × All Visible w
 
 -- the words of a line: at least one
 abbrev pub Words : List (List ℕ) → Type 0
-Words ws = (0 < length ws) × AllByRecursion GoodWord ws
+Words ws = (0 < length ws) × All GoodWord ws
 
 -- the words with one space between neighbours
 abbrev pub spaced : List (List ℕ) → List ℕ
@@ -46,7 +45,7 @@ NoWords text = (ws : List (List ℕ)) (rest : List ℕ) → Words ws → text �
 -- the text has a first line, which is neither empty nor one of words
 pub record Bad (text : List ℕ) : Type 0 where
   pub some : 0 < length text
-  pub no_blank : slice_index_or text 0 0 ≡ 10 → ⊥
+  pub no_blank : slice_index_or text 0 0 ≢ 10
   pub no_words : NoWords text
 
 -- from line n on, the text gives these signs, up to its first bad line

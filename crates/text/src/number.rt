@@ -1,28 +1,27 @@
 // Number words: decimal numbers of at most 5 digits, and hexadecimal ones of at most 6.
-ghost use Rattle.std.specs.Prelude.{◌≡◌, ◌+◌, ◌*◌, ◌^◌, ◌≤◌, ◌∷◌, length, MatchOption};
+ghost use Rattle.std.specs.Prelude.{◌+◌, ◌*◌, ◌^◌, ◌≤◌, ◌∷◌, length, SomeIff, All};
 ghost use Rattle.std.specs.Str.Parse.{digits_value, digits_value_after};
 ghost use Rattle.std.specs.Char.{digit_value};
-ghost use Rattle.std.specs.List.{AllByRecursion};
 ghost use Rattle.text.specs.Numbers.{DigitOf, Numeral, HexNumeral};
 
 // The value of a digit of the base, a letter in upper case.
 fn digit(base: u32, c: u8) -> Option<u32>
     requires { base ≤ 16 }
-    ensures { MatchOption result (DigitOf base c → ⊥) (λ d. DigitOf base c × (d ≡ digit_value c)) }
+    ensures { SomeIff result (DigitOf base c) (digit_value c) }
 {
     let d = match c {
         b'0'..=b'9' => u32::from(c - b'0'),
         b'A'..=b'F' => u32::from(c - b'A' + 10),
         _ => return None,
     };
-    if d < base { Some(d) } else { None }
+    (d < base).then_some(d)
 }
 
 // The number that the word's digits write after the digits of `before`.
 fn digits_after(base: u32, before: u32, word: &[u8]) -> Option<u32>
     requires base { base ≤ 16 }
     requires room { (before + 1) * base ^ length word.now ≤ 2 ^ 32 }
-    ensures { MatchOption result (AllByRecursion (DigitOf base) word.now → ⊥) (λ n. AllByRecursion (DigitOf base) word.now × (n ≡ digits_value_after base before word.now)) }
+    ensures { SomeIff result (All (DigitOf base) word.now) (digits_value_after base before word.now) }
 {
     let mut n = before;
     for c in word {
@@ -33,9 +32,10 @@ fn digits_after(base: u32, before: u32, word: &[u8]) -> Option<u32>
 }
 
 // The number of a word that starts with the digit `first`, from 1 to 9.
+#[tactic(auto, using(crate::proofs::Reading::longer_word))]
 fn longer(first: u8, rest: &[u8]) -> Option<u32>
     requires { (49 ≤ first) × (first ≤ 57) }
-    ensures { MatchOption result (Numeral (first ∷ rest.now) → ⊥) (λ n. Numeral (first ∷ rest.now) × (n ≡ digits_value 10 (first ∷ rest.now))) }
+    ensures { SomeIff result (Numeral (first ∷ rest.now)) (digits_value 10 (first ∷ rest.now)) }
 {
     if rest.len() <= 4 {
         digits_after(10, u32::from(first - b'0'), rest)
@@ -46,7 +46,7 @@ fn longer(first: u8, rest: &[u8]) -> Option<u32>
 
 // The number of 1 to 5 decimal digits without a needless zero in front.
 pub fn number(word: &[u8]) -> Option<u32>
-    ensures { MatchOption result (Numeral word.now → ⊥) (λ n. Numeral word.now × (n ≡ digits_value 10 word.now)) }
+    ensures { SomeIff result (Numeral word.now) (digits_value 10 word.now) }
 {
     match word {
         [b'0'] => Some(0),
@@ -58,12 +58,11 @@ pub fn number(word: &[u8]) -> Option<u32>
 
 // The number of 1 to 6 hexadecimal digits in upper case.
 pub fn hex_number(word: &[u8]) -> Option<u32>
-    ensures { MatchOption result (HexNumeral word.now → ⊥) (λ n. HexNumeral word.now × (n ≡ digits_value 16 word.now)) }
+    ensures { SomeIff result (HexNumeral word.now) (digits_value 16 word.now) }
 {
-    if 1 <= word.len() && word.len() <= 6 {
-        digits_after(16, 0, word)
-    } else {
-        None
+    match word.len() {
+        1..=6 => digits_after(16, 0, word),
+        _ => None,
     }
 }
 

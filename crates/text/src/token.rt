@@ -1,12 +1,11 @@
 // The tokens of a text: words, line ends and block ends, each with the number of its line.
-ghost use Rattle.std.specs.Prelude.{◌≡◌, ◌<◌, ◌≤◌, List, ◌++◌, map, length, take, IfOk, MatchOption, slice_index};
-ghost use Rattle.std.specs.List.{AllByRecursion};
+ghost use Rattle.std.specs.Prelude.{◌≡◌, ◌<◌, ◌≤◌, List, ◌++◌, map, length, take, IfOk, MatchOption, slice_index, All};
 ghost use Rattle.text.specs.Tokens.{Visible, NoWords, Bad, LineAdded, Scanned, sign_of, line_of};
 
 use std::alloc::{AllocError, Global};
 
 // A token borrows the text that it stands in.
-#[derive(Clone, Copy)]
+#[derive(Clone, Copy, Debug, PartialEq, Eq)]
 pub enum Token<'a> {
     Word(&'a [u8], u32),
     LineEnd(u32),
@@ -26,9 +25,7 @@ impl Token<'_> {
         ensures { result ≡ line_of (sign_of self.entry) }
     {
         match self {
-            Token::Word(_, line) => line,
-            Token::LineEnd(line) => line,
-            Token::BlockEnd(line) => line,
+            Token::Word(_, line) | Token::LineEnd(line) | Token::BlockEnd(line) => line,
         }
     }
 }
@@ -36,15 +33,12 @@ impl Token<'_> {
 // How many bytes at the front belong to a word.
 fn word_len(text: &[u8]) -> usize
     ensures within { result ≤ length text.now }
-    ensures visible { AllByRecursion Visible (take result text.now) }
+    ensures visible { All Visible (take result text.now) }
     ensures stops { result < length text.now → Visible (slice_index text.now result) → ⊥ }
 {
-    for (i, c) in text.iter().enumerate() {
-        if *c < b'!' || *c > b'~' {
-            return i;
-        }
-    }
-    text.len()
+    text.iter()
+        .position(|c| !c.is_ascii_graphic())
+        .unwrap_or(text.len())
 }
 
 // Adds the tokens of a first line of words and gives the text behind it, or gives none and may have added some words.
@@ -87,11 +81,11 @@ fn push_line<'a>(
         return Ok(Some(after));
     }
     let before = tokens.len();
-    let Some(after) = push_words(tokens, text, line)? else {
+    let after = push_words(tokens, text, line)?;
+    if after.is_none() {
         tokens.truncate(before);
-        return Ok(None);
-    };
-    Ok(Some(after))
+    }
+    Ok(after)
 }
 
 // The tokens of a text, line by line up to the first bad line.
@@ -124,18 +118,17 @@ mod tests {
     fn cuts_a_text(rt: HostRuntime) -> Result<(), Fail> {
         let scanned = scan(rt.alloc(), b"ab ~\n\n!\n")?;
         assert_eq!(rt; scanned.bad, None);
-        assert!(rt;
-            matches!(
-                scanned.tokens.as_slice(),
-                [
-                    Token::Word(b"ab", 1),
-                    Token::Word(b"~", 1),
-                    Token::LineEnd(1),
-                    Token::BlockEnd(2),
-                    Token::Word(b"!", 3),
-                    Token::LineEnd(3)
-                ]
-            )
+        assert_eq!(rt;
+            scanned.tokens.as_slice(),
+            [
+                Token::Word(b"ab", 1),
+                Token::Word(b"~", 1),
+                Token::LineEnd(1),
+                Token::BlockEnd(2),
+                Token::Word(b"!", 3),
+                Token::LineEnd(3)
+            ]
+            .as_slice()
         );
         assert_eq!(rt; Token::Word(b"ab", 7).line(), 7);
         Ok(())
@@ -155,7 +148,7 @@ mod tests {
         assert_eq!(rt; scan(rt.alloc(), b"a\nb")?.bad, Some(2), "no line feed");
         let scanned = scan(rt.alloc(), b"\na b\x7f\n")?;
         assert_eq!(rt; scanned.bad, Some(2));
-        assert!(rt; matches!(scanned.tokens.as_slice(), [Token::BlockEnd(1)]));
+        assert_eq!(rt; scanned.tokens.as_slice(), [Token::BlockEnd(1)].as_slice());
         Ok(())
     }
 }

@@ -1,15 +1,14 @@
-use Rattle.std.proofs.Common.{string_bytes}
 use Rattle.blocks.proofs.Answering.{block_said, block_unnamed}
 use Rattle.blocks.proofs.answer.say.Goals as goal
 
 pub returns-in-Some : goal.returns-in-Some
-returns-in-Some c = block_said (λ s. string_bytes s) c.args.bad c.in-Some.ensures c.in_ok-new.ensures.meaning c.table_of.result c.table_of.ensures
+returns-in-Some c = rw (← c.as_slice-tokens.ensures.value) (block_said _ c.in-Some.ensures c.in_ok-new.ensures.meaning _ c.table_of.ensures)
 
-pub returns-in-Some-tag_names : goal.returns-in-Some-tag_names
-returns-in-Some-tag_names c = block_said (λ s. string_bytes s) c.args.bad c.in-Some-tag_names.ensures c.new-in-Some-tag_names.ensures c.table_of-in-Some-tag_names.result c.table_of-in-Some-tag_names.ensures
+pub returns-in-Some-behind_names : goal.returns-in-Some-behind_names
+returns-in-Some-behind_names c = rw (← c.as_slice-tokens.ensures.value) (block_said _ c.in-Some-behind_names.ensures c.new-in-Some-behind_names.ensures _ c.table_of-in-Some-behind_names.ensures)
 
-pub returns-in-Some-pattern_names : goal.returns-in-Some-pattern_names
-returns-in-Some-pattern_names c = block_said (λ s. string_bytes s) c.args.bad c.in-Some-pattern_names.ensures c.in_ok-new-2.ensures.meaning c.table_of-in-Some-pattern_names.result c.table_of-in-Some-pattern_names.ensures
+pub returns-in-Some-behind_names-2 : goal.returns-in-Some-behind_names-2
+returns-in-Some-behind_names-2 c = rw (← c.as_slice-tokens.ensures.value) (block_said _ c.in-Some-behind_names-2.ensures c.in_ok-new-2.ensures.meaning _ c.table_of-in-Some-behind_names-2.ensures)
 
 pub returns : goal.returns
-returns c = block_unnamed _ c.args.bad c.in_default.ensures c.in_default-tag_names.ensures c.in_default-pattern_names.ensures
+returns c = rw (← c.as_slice-tokens.ensures.value) (block_unnamed _ _ c.in_default.ensures c.in_default-behind_names.ensures c.in_default-behind_names-2.ensures)

@@ -14,12 +14,13 @@ returns-in-Some g c =
     let told = c.in_ok-take_rows.ensures in
     bad_declined g.K.Readable.format (g.K.LabelKind.book c.args.kind).meaning (map sign_of c.args.tokens.now) c.args.bad (g.K.LabelKind.book c.take_rows.new.kind).meaning told.0 told.1 c.in-Some.line c.in-Some.is
 
+pub returns-in_err-atoms : goal.returns-in_err-atoms
+returns-in_err-atoms g c =
+    let told = c.in_ok-take_rows.ensures in
+    let p = err_from_is_err_and c.from_residual-in_err-atoms.result c.from_residual-in_err-atoms.ensures.1 in
+    rw (p.1, p.2) (many_declined g.K.Readable.format (g.K.LabelKind.book c.args.kind).meaning (map sign_of c.args.tokens.now) c.args.bad (g.K.LabelKind.book c.take_rows.new.kind).meaning told.0 told.1 c.in_default.is c.in_err-atoms.ensures.0)
+
 pub returns : goal.returns
 returns g c =
     let told = c.in_ok-take_rows.ensures in
-    many_declined g.K.Readable.format (g.K.LabelKind.book c.args.kind).meaning (map sign_of c.args.tokens.now) c.args.bad (g.K.LabelKind.book c.take_rows.new.kind).meaning told.0 told.1 c.in_default.is c.in-Err.ensures.0
-
-pub returns-in-Ok : goal.returns-in-Ok
-returns-in-Ok g c =
-    let told = c.in_ok-take_rows.ensures in
-    tabulated g.K.Readable.format (g.K.LabelKind.book c.args.kind).meaning (map sign_of c.args.tokens.now) c.args.bad (g.K.LabelKind.book c.take_rows.new.kind).meaning told.0 told.1 c.in_default.is c.atoms.new.table (string_bytes c.in_ok-print_table-in-Ok.field-0) c.in-Ok.ensures.0 c.in_ok-print_table-in-Ok.ensures
+    tabulated g.K.Readable.format (g.K.LabelKind.book c.args.kind).meaning (map sign_of c.args.tokens.now) c.args.bad (g.K.LabelKind.book c.take_rows.new.kind).meaning told.0 told.1 c.in_default.is c.atoms.new.table (string_bytes c.in_ok-print_table.field-0) c.in_ok-atoms.ensures.0 c.in_ok-print_table.ensures

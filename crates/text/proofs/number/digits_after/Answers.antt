@@ -1,11 +1,6 @@
 use Rattle.std.proofs.Common.{ℕ, ◌+◌, ◌*◌, sym, subst, arith}
-use Rattle.std.proofs.ByRecursion.{All-get_or}
-use Rattle.text.specs.Numbers.{DigitOf}
 use Rattle.text.proofs.Reading.{Read, read_more, read_fits, read_all}
 use Rattle.text.proofs.number.digits_after.Goals as goal
-
-pub returns-in_err-d : goal.returns-in_err-d
-returns-in_err-d c = rw c.from_residual.ensures (λ all. c.in_err-d.ensures (All-get_or (DigitOf c.args.base) _ c.loop-c.c-index 0 (omega arith) all))
 
 pub overflow_mul-n : goal.overflow_mul-n
 overflow_mul-n c = omega (arith, read_fits _ _ _ _ _ (omega arith) c.loop-c.invariant c.in_ok-d.ensures.0)

@@ -1,18 +1,29 @@
+use Rattle.blocks.proofs.Stopping.{stopped}
 use Rattle.blocks.proofs.Writing.{range_misspelt, range_written}
 use Rattle.blocks.proofs.kinds.CodePointsReadable.read_row.Goals as goal
 
-pub returns-in_default-number : goal.returns-in_default-number
-returns-in_default-number c = range_misspelt c.in-Some.ensures.3 (λ r. c.in_default-number.ensures r.0)
+pub returns-in_err-guard : goal.returns-in_err-guard
+returns-in_err-guard c =
+    let row = rw c.in_ok-row.ensures.ok_part at c.cut_three.ensures in
+    let none = rw c.in_err-guard.ensures.ok_part at c.number.ensures in
+    stopped _ _ _ _ _ _ c.in_err-guard.ensures.ok_part c.in_err-guard.ensures.value c.from_residual-in_err-guard.ensures.1 (range_misspelt row.3 (λ r. none r.0))
 
-pub returns-in_default-hex_number : goal.returns-in_default-hex_number
-returns-in_default-hex_number c = range_misspelt c.in-Some.ensures.3 (λ r. c.in_default-hex_number.ensures r.1.0)
+pub returns-in_err-low : goal.returns-in_err-low
+returns-in_err-low c =
+    let row = rw c.in_ok-row.ensures.ok_part at c.cut_three.ensures in
+    let none = rw c.in_err-low.ensures.ok_part at c.hex_number.ensures in
+    stopped _ _ _ _ _ _ c.in_err-low.ensures.ok_part c.in_err-low.ensures.value c.from_residual-in_err-low.ensures.1 (range_misspelt row.3 (λ r. none r.1.0))
 
-pub returns-in_default-hex_number-2 : goal.returns-in_default-hex_number-2
-returns-in_default-hex_number-2 c = range_misspelt c.in-Some.ensures.3 (λ r. c.in_default-hex_number-2.ensures r.1.1)
+pub returns-in_err-high : goal.returns-in_err-high
+returns-in_err-high c =
+    let row = rw c.in_ok-row.ensures.ok_part at c.cut_three.ensures in
+    let none = rw c.in_err-high.ensures.ok_part at c.hex_number-2.ensures in
+    stopped _ _ _ _ _ _ c.in_err-high.ensures.ok_part c.in_err-high.ensures.value c.from_residual-in_err-high.ensures.1 (range_misspelt row.3 (λ r. none r.1.1))
 
 pub returns : goal.returns
 returns c =
-    let guard = c.in-Some-number.ensures in
-    let low = c.in-Some-hex_number.ensures in
-    let high = c.in-Some-hex_number-2.ensures in
-    range_written c.in-Some.ensures.3 c.in-Some-number.guard c.in-Some-hex_number.low c.in-Some-hex_number-2.high guard.0 guard.1 low.0 low.1 high.0 high.1
+    let row = rw c.in_ok-row.ensures.ok_part at c.cut_three.ensures in
+    let guard = rw c.in_ok-guard.ensures.ok_part at c.number.ensures in
+    let low = rw c.in_ok-low.ensures.ok_part at c.hex_number.ensures in
+    let high = rw c.in_ok-high.ensures.ok_part at c.hex_number-2.ensures in
+    range_written row.3 c.in_ok-guard.guard c.in_ok-low.low c.in_ok-high.high guard.0 guard.1 low.0 low.1 high.0 high.1

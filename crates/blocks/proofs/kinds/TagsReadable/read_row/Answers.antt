@@ -1,14 +1,22 @@
+use Rattle.blocks.proofs.Stopping.{stopped}
 use Rattle.blocks.proofs.Writing.{tag_misspelt, tag_written}
 use Rattle.blocks.proofs.kinds.TagsReadable.read_row.Goals as goal
 
-pub returns-in_default-number : goal.returns-in_default-number
-returns-in_default-number c = tag_misspelt c.in-Some.ensures.2 (λ r. c.in_default-number.ensures r.0)
+pub returns-in_err-guard : goal.returns-in_err-guard
+returns-in_err-guard c =
+    let row = rw c.in_ok-row.ensures.ok_part at c.cut_two.ensures in
+    let none = rw c.in_err-guard.ensures.ok_part at c.number.ensures in
+    stopped _ _ _ _ _ _ c.in_err-guard.ensures.ok_part c.in_err-guard.ensures.value c.from_residual-in_err-guard.ensures.1 (tag_misspelt row.2 (λ r. none r.0))
 
-pub returns-in_default-number-2 : goal.returns-in_default-number-2
-returns-in_default-number-2 c = tag_misspelt c.in-Some.ensures.2 (λ r. c.in_default-number-2.ensures r.1)
+pub returns-in_err-tag : goal.returns-in_err-tag
+returns-in_err-tag c =
+    let row = rw c.in_ok-row.ensures.ok_part at c.cut_two.ensures in
+    let none = rw c.in_err-tag.ensures.ok_part at c.number-2.ensures in
+    stopped _ _ _ _ _ _ c.in_err-tag.ensures.ok_part c.in_err-tag.ensures.value c.from_residual-in_err-tag.ensures.1 (tag_misspelt row.2 (λ r. none r.1))
 
 pub returns : goal.returns
 returns c =
-    let guard = c.in-Some-number.ensures in
-    let tag = c.in-Some-number-2.ensures in
-    tag_written c.in-Some.ensures.2 c.in-Some-number.guard c.in-Some-number-2.tag guard.0 guard.1 tag.0 tag.1
+    let row = rw c.in_ok-row.ensures.ok_part at c.cut_two.ensures in
+    let guard = rw c.in_ok-guard.ensures.ok_part at c.number.ensures in
+    let tag = rw c.in_ok-tag.ensures.ok_part at c.number-2.ensures in
+    tag_written row.2 c.in_ok-guard.guard c.in_ok-tag.tag guard.0 guard.1 tag.0 tag.1
