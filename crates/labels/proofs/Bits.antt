@@ -3,6 +3,7 @@ use Rattle.std.proofs.Common.{◌≡◌, ℕ, zero, suc, ◌+◌, ◌-◌, ◌*�
 use lib.Arith.{bin_ind}
 use lib.Bits.{bit_and, bit_or, and_shr, or_shr, and_mod, or_mod}
 use native.Mathlib.Nat.{div-eq_of_lt, div_self}
+use Rattle.std.proofs.Math.Bool.{and-true}
 use Rattle.std.proofs.lemmas.Nat.{shr-shr, shl-shr, mod_below, pow_pos, pow-add, pow_below, one_shl, and_mask}
 use Rattle.std.proofs.lemmas.Bool.{eqb-true, eqb-false, eq-eqb, ne_eqb, lt-ltb, cases_order, and_parts, both_ways}
 use Rattle.std.proofs.lemmas.Bool.Decides.{nat_tests}
@@ -122,14 +123,10 @@ excludes_decides s o = (
   λ all. eq-eqb (bit_and s o) 0 (same_by_bits _ _ (λ g. has_and s o g ∙ clashes (has s g) (has o g) (all g) ∙ sym (has_none g))),
 )
 
-and_true : (b : Bool) → (b && true) ≡ b
-and_true true = refl
-and_true false = refl
-
 -- `s | 1 << k`
 pub has_with : (s k g : ℕ) → k < 32 → has (bit_or s (1 * 2 ^ k % 2 ^ 32)) g ≡ (has s g || (eqb g k && ltb k 32))
 has_with s k g small =
-    ap (λ n. has (bit_or s n) g) (one_shl k 32 small) ∙ has_or s (2 ^ k) g ∙ ap (λ b. has s g || b) (has_one k g ∙ sym (ap (λ b. eqb g k && b) (lt-ltb k 32 small) ∙ and_true (eqb g k)))
+    ap (λ n. has (bit_or s n) g) (one_shl k 32 small) ∙ has_or s (2 ^ k) g ∙ ap (λ b. has s g || b) (has_one k g ∙ sym (ap (λ b. eqb g k && b) (lt-ltb k 32 small) ∙ and-true (eqb g k)))
 
 -- `s >> k & 1 == 1`
 pub has_shifted : (s k : ℕ) → eqb (bit_and (s / 2 ^ k) 1) 1 ≡ has s k

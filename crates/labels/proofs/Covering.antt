@@ -1,23 +1,14 @@
 -- What ranges cover, and where that may change.
-use Rattle.std.proofs.Common.{◌≡◌, ℕ, suc, ◌+◌, ◌<◌, ◌≤◌, Bool, true, false, not, ◌&&◌, ◌||◌, eqb, leb, ◌⊎◌, List, [], ◌∷◌, ◌++◌, length, take, sym, refl, ap, ◌∙◌, subst, inl, inr, ⊎_elim, arith}
+use Rattle.std.proofs.Common.{◌≡◌, ℕ, suc, ◌+◌, ◌<◌, ◌≤◌, true, false, not, ◌&&◌, ◌||◌, eqb, leb, ◌⊎◌, List, [], ◌∷◌, ◌++◌, length, take, sym, refl, ap, ◌∙◌, subst, inl, inr, ⊎_elim, arith}
+use Rattle.std.proofs.Math.Bool.{or_assoc, or_comm}
 use Rattle.std.proofs.lemmas.List.{take_more}
 use Rattle.std.proofs.lemmas.Bool.{both_ways, cases_lt, cases_Bool, leb-true, le-leb, lt-leb, and_parts, and_from, and_left, and_right, not-true, not_from_false, cond-true, cond-false}
 use Rattle.labels.specs.Ranges.{surrogate, code_label, in_range, covered, given_at, nothing, past_surrogates}
 use Rattle.labels.specs.declared.range.Given.{Given}
 
-or_assoc : (a b c : Bool) → ((a || b) || c) ≡ (a || (b || c))
-or_assoc true b c = refl
-or_assoc false b c = refl
-
-or_swap : (a b : Bool) → (a || b) ≡ (b || a)
-or_swap true true = refl
-or_swap true false = refl
-or_swap false true = refl
-or_swap false false = refl
-
 -- one range more at the end
 pub covered_push : (rs : List Given) (r : Given) (g x : ℕ) → covered (rs ++ r ∷ []) g x ≡ (covered rs g x || (eqb g r.guard && in_range r.range x))
-covered_push [] r g x = or_swap (eqb g r.guard && in_range r.range x) false
+covered_push [] r g x = or_comm (eqb g r.guard && in_range r.range x) false
 covered_push (s ∷ rs) r g x =
     ap (λ b. (eqb g s.guard && in_range s.range x) || b) (covered_push rs r g x)
     ∙ sym (or_assoc (eqb g s.guard && in_range s.range x) (covered rs g x) (eqb g r.guard && in_range r.range x))

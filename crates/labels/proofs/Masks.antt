@@ -1,6 +1,7 @@
 -- The care mask and the value of a pattern, character by character.
-use Rattle.std.proofs.Common.{◌≡◌, ℕ, zero, suc, ◌+◌, ◌*◌, ◌/◌, ◌%◌, ◌^◌, ◌<◌, ◌≤◌, Bool, true, false, ◌&&◌, ◌||◌, eqb, List, [], ◌∷◌, ◌++◌, length, get_or, take, drop, Some, sym, refl, ap, ◌∙◌, subst, ⊎_elim, mod-eq_of_lt, mul_assoc, pow-suc, add-one, arith, take-append-drop, pow_mono}
+use Rattle.std.proofs.Common.{◌≡◌, ℕ, zero, suc, ◌+◌, ◌*◌, ◌/◌, ◌%◌, ◌^◌, ◌<◌, ◌≤◌, true, false, ◌&&◌, ◌||◌, eqb, List, [], ◌∷◌, ◌++◌, length, get_or, take, drop, Some, sym, refl, ap, ◌∙◌, subst, ⊎_elim, mod-eq_of_lt, mul_assoc, pow-suc, add-one, arith, take-append-drop, pow_mono}
 use lib.Bits.{bit_and, and_block, and_le_r, and_mod, and_zero_r}
+use Rattle.std.proofs.Math.Bool.{and-false}
 use Rattle.std.proofs.lemmas.Nat.{shr_split, mod_below, pow_pos, and_mask, mul-le, div-mul-add, mod-mul-add}
 use Rattle.std.proofs.lemmas.List.{length_push, take_more, take_all, drop_more, length-take-le}
 use Rattle.std.proofs.lemmas.Bool.{and_parts, and_from, or_cases, eqb-true, eq-eqb, cond_both}
@@ -104,14 +105,10 @@ signs_push (d ∷ cs) c s h =
     let parts = and_parts (sign d) (signs cs) s in
     ap (λ b. b && signs (cs ++ c ∷ [])) parts.0 ∙ signs_push cs c parts.1 h
 
-and_false : (b : Bool) → (b && false) ≡ false
-and_false true = refl
-and_false false = refl
-
 -- a character that is no sign spoils the whole
 pub signs_spoiled : (cs ds : List ℕ) (c : ℕ) → sign c ≡ false → signs (cs ++ c ∷ ds) ≡ false
 signs_spoiled [] ds c h = ap (λ b. b && signs ds) h
-signs_spoiled (d ∷ cs) ds c h = ap (λ b. sign d && b) (signs_spoiled cs ds c h) ∙ and_false (sign d)
+signs_spoiled (d ∷ cs) ds c h = ap (λ b. sign d && b) (signs_spoiled cs ds c h) ∙ and-false (sign d)
 
 -- what has been read of the first i characters
 pub record Read (cs : List ℕ) (i care value : ℕ) : Type 0 where

@@ -1,12 +1,11 @@
 // Event words: labels 0 to 65535; a guard is given by patterns of their bits.
-ghost use Rattle.std.specs.Prelude.{◌≡◌, ℕ, ◌+◌, ◌<◌, ◌≤◌, true, length, IfOk, vec_len, string_bytes, ◌≢◌, nat_le, nat_lt};
+ghost use Rattle.std.specs.Prelude.{◌≡◌, ◌+◌, ◌<◌, ◌≤◌, length, IfOk, string_bytes, nat_le, nat_lt};
 ghost use Rattle.std.proofs.Common.{rules};
 ghost use Rattle.labels.specs.Masks.{admits};
 ghost use Rattle.labels.specs.Meaning.{Fresh};
 ghost use Rattle.labels.specs.Patterns.{pattern_formed, matches};
-ghost use Rattle.labels.specs.Sets.{has};
 ghost use Rattle.labels.specs.Laws.{table_lawful, table_narrow};
-ghost use Rattle.labels.specs.Tables.{set_at, table_meaning, Marked};
+ghost use Rattle.labels.specs.Tables.{table_meaning, Marked};
 
 use crate::kind::{AddFault, LabelKind, NarrowKind};
 use crate::pattern::Pattern;
@@ -68,6 +67,7 @@ impl LabelKind for EventWords {
         if self.patterns == 64 {
             return Err(AddFault::Full);
         }
+        // counted first: only guards below the count stand in the sets
         self.table.guards = self.table.guards.max(guard + 1);
         mark(&mut self.table.sets, guard, pattern);
         self.patterns += 1;

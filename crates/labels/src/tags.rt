@@ -60,6 +60,7 @@ impl LabelKind for Tags {
             return Err(AddFault::Value);
         }
         let i = tag as usize;
+        // counted first: only guards below the count stand in the sets
         self.table.guards = self.table.guards.max(guard + 1);
         self.table.sets[i] = self.table.sets[i].with(guard);
         Ok(())
