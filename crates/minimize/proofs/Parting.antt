@@ -1,6 +1,7 @@
 -- One class more: what stays true when a class is parted.
-use Rattle.std.proofs.Common.{◌≡◌, ℕ, ◌+◌, ◌<◌, cond, ltb, List, length, set, sym, ap, ◌∙◌, subst, inl, inr, ⊎_elim, arith, length-set}
-use Rattle.std.proofs.lemmas.Bool.{cases_eq, cond_both, cond-true, lt-ltb, ltb-true}
+use Rattle.std.proofs.Common.{◌≡◌, ℕ, ◌+◌, ◌<◌, cond, ltb, List, length, set, sym, ap, ◌∙◌, inl, inr, ⊎_elim, arith, length-set}
+use Rattle.std.proofs.lemmas.Grind.{common_steps}
+use Rattle.std.proofs.lemmas.Bool.{cases_eq, lt-ltb}
 use Rattle.trees.specs.Automata.{Automaton, Complete}
 use Rattle.trees.specs.Classes.{ToldApart, Tells, accept, single, left, right, Refines, Separate}
 use Rattle.trees.proofs.Classes.{told, refined_classes}
@@ -11,7 +12,6 @@ use Rattle.minimize.specs.Tests.{at, answer_of, Valid, Splits}
 use Rattle.minimize.specs.declared.test.Found.{Found}
 use Rattle.minimize.specs.declared.test.Test.{Test}
 use Rattle.minimize.specs.declared.test.Test.TheVariants.{Accepts, Single, Left, Right}
-use Rattle.minimize.proofs.Writing.{written}
 
 -- states that answer a test differently are told apart by it
 tells : (n : ℕ) (A : Automaton) (classes : List ℕ) (t : Test) (p q : ℕ) → Valid n A t → (answer_of A classes t p ≡ answer_of A classes t q → ⊥) → Tells (atoms_below n) A (at classes) p q
@@ -22,15 +22,7 @@ tells n A classes (Right y a) p q v d = right y a v.0 (lt-ltb a n v.1) d
 
 module _ (n : ℕ) (A : Automaton) (classes : List ℕ) (t : Test) (r new : ℕ) (finer : List ℕ) (valid : Valid n A t) (parted : Parted A classes t r new finer) where
   same_part : (p q : ℕ) → p < A.size → q < A.size → at classes p ≡ at classes q → answer_of A classes t p ≡ answer_of A classes t q → at finer p ≡ at finer q
-  same_part p q hp hq class answer =
-      ⊎_elim
-      (λ here.
-      ⊎_elim
-      (λ like. (parted p hp).stays like ∙ (class ∙ sym ((parted q hq).stays (sym answer ∙ like))))
-      (λ unlike. (parted p hp).goes here unlike ∙ sym ((parted q hq).goes (sym class ∙ here) (λ e. unlike (answer ∙ e))))
-      (cases_eq (answer_of A classes t p) (answer_of A classes t r)))
-      (λ elsewhere. (parted p hp).other elsewhere ∙ (class ∙ sym ((parted q hq).other (λ e. elsewhere (class ∙ e)))))
-      (cases_eq (at classes p) (at classes r))
+  same_part p q hp hq class answer = grind (arith, parted p hp, parted q hq, class, answer)
 
   parted_refines : Refines (atoms_below n) A (at classes) (at finer)
   parted_refines p q hp hq apart =
@@ -46,22 +38,10 @@ module _ (n : ℕ) (A : Automaton) (classes reps : List ℕ) (count : ℕ) (f : 
 
   module _ (finer : List ℕ) (room : count < 32) (long : length finer ≡ A.size) (parted : Parted A classes f.test (at reps (at classes f.state)) count finer) where
     finer_below : (p : ℕ) → p < A.size → at finer p < count + 1
-    finer_below p hp =
-        ⊎_elim
-        (λ here.
-        ⊎_elim
-        (λ like. omega (arith, (parted p hp).stays like, part.below p hp))
-        (λ unlike. omega (arith, (parted p hp).goes here unlike))
-        (cases_eq (answer_of A classes f.test p) (answer_of A classes f.test (at reps (at classes f.state)))))
-        (λ elsewhere. omega (arith, (parted p hp).other elsewhere, part.below p hp))
-        (cases_eq (at classes p) (at classes (at reps (at classes f.state))))
+    finer_below p hp = grind (arith, parted p hp, part.below p hp)
 
     stays_own : (i : ℕ) → i < count → at finer (at reps i) ≡ i
-    stays_own i hi =
-        ⊎_elim
-        (λ here. (parted (at reps i) (part.within i hi)).stays (ap (λ j. answer_of A classes f.test (at reps j)) here) ∙ part.own i hi)
-        (λ elsewhere. (parted (at reps i) (part.within i hi)).other (λ e. elsewhere (sym (part.own i hi) ∙ (e ∙ own_class))) ∙ part.own i hi)
-        (cases_eq i (at classes f.state))
+    stays_own i hi = grind (arith, parted (at reps i) (part.within i hi), part.own i hi, own_class)
 
     parted_partition : Partition A finer (set reps count f.state) (count + 1)
     parted_partition =
@@ -72,8 +52,8 @@ module _ (n : ℕ) (A : Automaton) (classes reps : List ℕ) (count : ℕ) (f : 
           some = omega arith;
           few = omega arith;
           below = finer_below;
-          within = written (λ i v. v < A.size) reps count f.state inside part.within splits.state;
-          own = written (λ i v. at finer v ≡ i) reps count f.state inside stays_own ((parted f.state splits.state).goes (sym own_class) splits.differs);
+          within = λ i hi. grind (arith, common_steps, inside, part.within, splits.state);
+          own = λ i hi. let new = (parted f.state splits.state).goes (sym own_class) splits.differs in grind (arith, common_steps, inside, stays_own, new);
         }
 
     -- one class more, and different classes are still told apart
@@ -98,16 +78,14 @@ module _ (n : ℕ) (A : Automaton) (classes reps : List ℕ) (count : ℕ) (f : 
         ⊎_elim
         (λ here.
         told (atoms_below n) A (at classes) complete separate (at reps i) f.state (part.within i hi) splits.state
-        (tells n A classes f.test (at reps i) f.state splits.valid (λ e. splits.differs (sym e ∙ ap (λ j. answer_of A classes f.test (at reps j)) here))))
-        (λ elsewhere. separate (at reps i) f.state (part.within i hi) splits.state (λ e. elsewhere (sym (part.own i hi) ∙ e)))
+        (tells n A classes f.test (at reps i) f.state splits.valid (λ e. grind (arith, splits.differs, e, here))))
+        (λ elsewhere. separate (at reps i) f.state (part.within i hi) splits.state (λ e. grind (arith, part.own i hi, e, elsewhere)))
         (cases_eq i (at classes f.state))
 
     pub too_many : ApartStates (atoms_below n) A 33
     too_many =
         record {
           state = state;
-          within = λ k hk. cond_both (ltb k 32) (at reps k) f.state (λ s. s < A.size) (λ e. part.within k (omega (arith, ltb-true k 32 e))) (λ e. splits.state);
-          apart = λ i j hij hj.
-              subst (λ s. ToldApart (atoms_below n) A s (state j)) (sym (cond-true (ltb i 32) (at reps i) f.state (lt-ltb i 32 (omega arith))))
-              (cond_both (ltb j 32) (at reps j) f.state (ToldApart (atoms_below n) A (at reps i)) (λ e. reps_apart i j hij (omega (arith, ltb-true j 32 e))) (λ e. found_apart i (omega arith)));
+          within = λ k hk. grind (arith, part.within, splits.state);
+          apart = λ i j hij hj. grind (arith, reps_apart, found_apart);
         }

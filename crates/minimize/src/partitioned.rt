@@ -5,6 +5,7 @@ use crate::automaton::TreeAutomaton;
 use crate::test::Test;
 
 // The class of each state, and the representative of each of the classes, which are the numbers below count.
+// `count` stands beside `reps`, since `Partition` of the public contracts counts the 32 lent places.
 #[derive(Drop)]
 pub struct Partitioned<'a, M: TreeAutomaton> {
     pub machine: &'a M,

@@ -27,6 +27,7 @@ impl<M: TreeAutomaton> Partitioned<'_, M> {
         ensures { RowOf self.now (letters self.now) x q result }
     {
         let mut classes = [0; 16];
+        // by index: with `iter_mut().enumerate().take(..)` a proof learns nothing of the entries
         for a in 0..self.machine.atoms() {
             classes[a] = self.class_beside(x, row, q, a);
         }

@@ -11,6 +11,7 @@ fn find_between<F: Fn(usize) -> Option<Found>>(low: usize, high: usize, look: F)
     requires { (p : ℕ) → low ≤ p → p < high → F.pre look p }
     ensures { MatchOption result ((p : ℕ) → low ≤ p → p < high → F.post look p None) (λ found. (p : ℕ) × (low ≤ p) × (p < high) × F.post look p (Some found)) }
 {
+    // with `find_map` the proof has to follow the calls of `look`; here one invariant does
     for p in low..high {
         if let Some(found) = look(p) {
             return Some(found);
@@ -28,6 +29,7 @@ fn find_round<F: Fn(usize) -> Option<Found>>(size: usize, start: usize, look: F)
     find_between(middle, size, &look).or_else(|| find_between(0, middle, &look))
 }
 
+// These use `for` and `if let`: a closure that calls a look has to repeat its clauses.
 impl<M: TreeAutomaton> Partitioned<'_, M> {
     // Looks at p as the one child.
     fn single_of(&self, p: usize) -> Option<Found>

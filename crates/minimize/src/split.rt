@@ -32,8 +32,8 @@ impl<M: TreeAutomaton> Partitioned<'_, M> {
     {
         let r = self.representative(found.state);
         let kept = self.answer(found.test, r);
-        for p in 0..next.len() {
-            next[p] = self.moved(found.test, r, kept, p);
+        for (p, class) in next.iter_mut().enumerate() {
+            *class = self.moved(found.test, r, kept, p);
         }
     }
 }
