@@ -1,6 +1,6 @@
 -- When a round has found nothing new, all things have been found; and what it means that there is no place for one more.
-use Rattle.std.proofs.Common.{◌≡◌, ℕ, ◌<◌, true, cond, eqb, ltb, ◌⊎◌, [], ◌∷◌, sym, refl, ◌∙◌, subst, inl, inr, ⊎_elim, arith}
-use Rattle.std.proofs.lemmas.Bool.{cases_lt, cases_Bool, cases_order, both_ways, eq-eqb, ne_eqb, cond-true, cond-false}
+use Rattle.std.proofs.Common.{◌≡◌, ℕ, ◌<◌, true, ltb, ◌⊎◌, [], ◌∷◌, sym, refl, ◌∙◌, subst, inl, inr, ⊎_elim, arith}
+use Rattle.std.proofs.lemmas.Bool.{cases_lt, cases_Bool, cases_order, both_ways}
 use Rattle.trees.specs.Automata.{Automaton}
 use Rattle.trees.specs.Rounds.{Combination, nullary, unary, binary, step, Allowed, Below, key, Less, Before}
 use Rattle.trees.proofs.Running

@@ -109,15 +109,6 @@ module _ {E : Type 0} {S : Steps E} {entry : ℕ → E} {first : ℕ → Combina
       between (unary x a) b l h = grind arith
       between (binary x y a) b l h = let f = found_in w x b.0 in grind arith
 
--- the first round is of childless nodes alone
-pub leaves_done : {E : Type 0} {S : Steps E} {entry : ℕ → E} {first : ℕ → Combination} {n : ℕ} → InRound S entry first n 0 0 0 0 0 S.atoms → InRound S entry first n 0 0 3 0 0 0
-leaves_done {S = S} {n = n} w = move w 3 0 0 0 (omega arith) (inr (refl, inl (omega arith))) between
-  where
-    between : (c : Combination) → Below n c → Allowed (letters S.atoms) c → Less (key w.round c) (w.this ∷ 3 ∷ 0 ∷ 0 ∷ 0 ∷ []) → Less (key w.round c) (w.this ∷ 0 ∷ 0 ∷ 0 ∷ S.atoms ∷ [])
-    between (nullary a) b l h = let lt = ltb-true a S.atoms l in grind arith
-    between (unary x a) b l h = let f = found_in w x b in grind arith
-    between (binary x y a) b l h = let f = found_in w x b.0 in grind arith
-
 -- ---- a round done, and the next
 
 pub next_round : {E : Type 0} {S : Steps E} {entry : ℕ → E} {first : ℕ → Combination} {n old start : ℕ} → InRound S entry first n old start 3 0 0 0 → InRound S entry first n start n 1 start 0 0

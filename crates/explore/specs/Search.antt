@@ -1,7 +1,7 @@
 -- How the code holds a search: things in a numbering, and their first combinations in cells.
 use Rattle.std.specs.Prelude.{◌≡◌, ℕ, ◌+◌, ◌<◌, ◌≤◌, ◌⊎◌, List, length, None, Ok, Err, Result, slice_index_or, slice_set}
 use Rattle.trees.specs.Rounds.{Combination, nullary, unary, binary}
-use Rattle.explore.specs.Steps.{Steps}
+use Rattle.explore.specs.Steps.{Steps, apply}
 use Rattle.explore.specs.Firsts.{first_at}
 use Rattle.explore.specs.Numbers.{At, Finds}
 use Rattle.explore.specs.Rounds.{InRound, Found, MoreThan, Remembers, Room, entry_at}
@@ -39,6 +39,10 @@ abbrev pub Turn : Round → Children → Type 0
 Turn r Children.None = Unit {0}
 Turn r (Children.One p) = (r.old ≤ p) × (p < r.start)
 Turn r (Children.Two p q) = (p < r.start) × (q < r.start) × ((r.old ≤ p) ⊎ (r.old ≤ q))
+
+-- what is given for each label is what the label and the children lead to
+abbrev pub LeadsTo : {E : Type 0} → Steps E → Numbering E → Children → (ℕ → E → Type 0) → Type 0
+LeadsTo {E} S s c gives = (a : ℕ) (e : E) → a < S.atoms → gives a e → e ≡ apply S (entry_at S s.entries.now) (over c a)
 
 -- ---- one combination
 

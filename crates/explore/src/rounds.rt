@@ -1,9 +1,8 @@
 // The rounds in which things are found.
 // Not a struct of `found` and `firsts`: what a struct in a struct was lent is not followed to the end of the loan.
 ghost use Rattle.std.specs.Prelude.{◌≡◌, ℕ, ◌+◌, ◌<◌};
-ghost use Rattle.explore.specs.Rounds.{Room, entry_at};
-ghost use Rattle.explore.specs.Steps.{apply};
-ghost use Rattle.explore.specs.Search.{Explores, GoesOn, Stands, Turn, count, left, over, right};
+ghost use Rattle.explore.specs.Rounds.{Room};
+ghost use Rattle.explore.specs.Search.{Explores, GoesOn, LeadsTo, Stands, Turn, count, left, right};
 
 use crate::entry::Entry;
 use crate::full::Full;
@@ -53,7 +52,7 @@ fn labels<E: Entry, S: Stepping<E>, F: Fn(usize) -> E>(
     thing: F,
 ) -> Result<(), Full>
     requires may { (a : ℕ) → a < (S.Stepping.steps steps.now).atoms → F.pre thing a }
-    requires leads { (a : ℕ) (e : E) → a < (S.Stepping.steps steps.now).atoms → F.post thing a e → e ≡ apply (S.Stepping.steps steps.now) (entry_at (S.Stepping.steps steps.now) found.old.entries.now) (over children a) }
+    requires leads { LeadsTo (S.Stepping.steps steps.now) found.old children (F.post thing) }
     requires turn { Turn round children }
     requires stands { Stands (S.Stepping.steps steps.now) found.old firsts.old round (count children) (left children) (right children) 0 }
     ensures { GoesOn (S.Stepping.steps steps.now) found.old round result found.new firsts.new (count children) (left children) (right children) (S.Stepping.steps steps.now).atoms }

@@ -1,7 +1,7 @@
 -- There are no more classes than places in their order.
 use Rattle.std.proofs.Common.{◌≡◌, ℕ, suc, ◌≤◌, List, length, Ok, Err, Result, IsOk, Decides, ap, arith, rules}
 use Rattle.std.proofs.lemmas.Grind.{common_steps}
-use Rattle.std.proofs.lemmas.Bool.{ltb-true, eqb-true, eq-eqb}
+use Rattle.std.proofs.lemmas.Bool.{ltb-true}
 use Rattle.trees.specs.Automata.{Automaton}
 use Rattle.trees.proofs.Pigeonhole.{at_most}
 use Rattle.explore.specs.Rounds.{MoreThan}
@@ -30,4 +30,4 @@ module _ (n : ℕ) (A : Automaton) (classes reps : List ℕ) (count : ℕ) (fit 
   all_listed order es cells (Err full) long more = absurd (never_full (length order) (omega (arith, parts.few)) more)
 
 pub class_exact : (x y : Class) → Decides (same_class x y) (x ≡ y)
-class_exact x y = (λ e. ap (λ k. record { 0 = k }) (eqb-true x.0 y.0 e), λ e. eq-eqb x.0 y.0 (ap (λ c. c.0) e))
+class_exact x y = search rules

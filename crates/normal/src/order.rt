@@ -17,6 +17,7 @@ pub struct Ordered {
 }
 
 // Puts the states into classes, and the classes into the order in which rounds find them.
+// Not a struct of the slices: each is lent on its own, and a struct's contract would say of each loan where it ends.
 pub fn order_classes<M: TreeAutomaton>(
     m: &M,
     classes: &mut [u16],
