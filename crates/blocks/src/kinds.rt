@@ -25,7 +25,8 @@ impl Readable for Tags {
 
     fn behind_names<'t, 'a>(tokens: &'t [Token<'a>]) -> Option<&'t [Token<'a>]> {
         let row = cut_two(tokens)?;
-        (row.words == (b"guard".as_slice(), b"tag".as_slice())).then_some(row.rest)
+        let names = (b"guard".as_slice(), b"tag".as_slice());
+        (row.words == names).then_some(row.rest)
     }
 
     fn read_row<'t, 'a>(
@@ -56,9 +57,8 @@ impl Readable for CodePoints {
 
     fn behind_names<'t, 'a>(tokens: &'t [Token<'a>]) -> Option<&'t [Token<'a>]> {
         let row = cut_three(tokens)?;
-        (row.words == (b"guard".as_slice(), b"low".as_slice(), b"high".as_slice())).then_some(
-            row.rest,
-        )
+        let names = (b"guard".as_slice(), b"low".as_slice(), b"high".as_slice());
+        (row.words == names).then_some(row.rest)
     }
 
     fn read_row<'t, 'a>(
@@ -90,7 +90,8 @@ impl Readable for EventWords {
 
     fn behind_names<'t, 'a>(tokens: &'t [Token<'a>]) -> Option<&'t [Token<'a>]> {
         let row = cut_two(tokens)?;
-        (row.words == (b"guard".as_slice(), b"pattern".as_slice())).then_some(row.rest)
+        let names = (b"guard".as_slice(), b"pattern".as_slice());
+        (row.words == names).then_some(row.rest)
     }
 
     fn read_row<'t, 'a>(
