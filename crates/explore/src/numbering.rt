@@ -1,5 +1,5 @@
 // A container that numbers entries as they are found, each once.
-ghost use Rattle.std.specs.Prelude.{◌≡◌, ℕ, ◌+◌, ◌<◌, ◌≤◌, length, None};
+ghost use Rattle.std.specs.Prelude.{◌≡◌, ℕ, ◌+◌, ◌<◌, ◌≤◌, length};
 ghost use Rattle.explore.specs.Places.{place_of};
 ghost use Rattle.explore.specs.Numbers.{Alike, At, Finds, Guesses, Numbers};
 

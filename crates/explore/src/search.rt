@@ -1,5 +1,4 @@
 // All things that steps lead to.
-ghost use Rattle.std.specs.Prelude.{◌≡◌, ◌*◌, ◌<◌, ◌≤◌, length};
 ghost use Rattle.explore.specs.Listing.{Lists};
 ghost use Rattle.explore.specs.Rounds.{Room};
 

@@ -1,5 +1,5 @@
 // One combination tried.
-ghost use Rattle.std.specs.Prelude.{◌≡◌, ℕ, ◌+◌, ◌*◌, ◌<◌, ◌≤◌, length};
+ghost use Rattle.std.specs.Prelude.{◌+◌, ◌*◌, ◌<◌, ◌≤◌, length};
 ghost use Rattle.trees.specs.Rounds.{Below};
 ghost use Rattle.explore.specs.Rounds.{Remembers, Room};
 ghost use Rattle.explore.specs.Search.{Tries, over};
