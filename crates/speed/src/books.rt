@@ -1,5 +1,4 @@
 // Guard books of 32 guards with two values each.
-use anyhow::anyhow;
 use labels::code_points::CodePoints;
 use labels::events::EventWords;
 use labels::kind::LabelKind;
@@ -12,7 +11,7 @@ pub(crate) fn random_words(heap: Global) -> anyhow::Result<EventWords> {
     let mut words = EventWords::new(heap)?;
     for i in 0..64u32 {
         let pattern = random_pattern(heap, &mut seed)?;
-        give(&mut words, i / 2, &pattern)?;
+        words.add(i / 2, &pattern)?;
     }
     Ok(words)
 }
@@ -46,15 +45,10 @@ pub(crate) fn split_words(heap: Global) -> anyhow::Result<EventWords> {
     let mut words = EventWords::new(heap)?;
     for guard in 0..32u32 {
         let pattern = String::from_str(heap, LOW_BITS[guard as usize % 4])?;
-        give(&mut words, guard, &pattern)?;
-        give(&mut words, guard, &last)?;
+        words.add(guard, &pattern)?;
+        words.add(guard, &last)?;
     }
     Ok(words)
-}
-
-fn give<K: LabelKind>(kind: &mut K, guard: u32, value: &K::Value) -> anyhow::Result<()> {
-    kind.add(guard, value)
-        .map_err(|_| anyhow!("a value was refused"))
 }
 
 // Two ranges each of guards 0 to 3: from one number to the next exactly one guard changes, and no set of guards comes
@@ -71,7 +65,7 @@ pub(crate) fn split_points(heap: Global) -> anyhow::Result<CodePoints> {
     let mut points = CodePoints::new(heap)?;
     for guard in 0..32u32 {
         for (low, high) in STEPS[guard as usize % 4] {
-            give(&mut points, guard, &Range { low, high })?;
+            points.add(guard, &Range { low, high })?;
         }
     }
     Ok(points)
