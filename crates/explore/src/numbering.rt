@@ -38,6 +38,7 @@ impl<E: Entry> Lookup<'_, '_, E> {
         ensures { Guesses self.now.entries.now (length self.now.entries.now) e.now result }
     {
         let start = e.hint() % HINTS;
+        // Not a chain of `map_while` and `find`: what it finds is not proved to pass its test.
         for i in 0..LOOKS {
             let k = self.hints.get((start + i) % HINTS)?.checked_sub(1)? as usize;
             if self.entries.get(k) == Some(e) {

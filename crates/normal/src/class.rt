@@ -1,9 +1,9 @@
 // Classes of states, and the steps between them.
-ghost use Rattle.std.specs.Prelude.{◌≡◌, ◌<◌, slice_index};
+ghost use Rattle.std.specs.Prelude.{◌≡◌, ◌<◌};
 ghost use Rattle.minimize.specs.Partitions.{Partition};
 ghost use Rattle.std.proofs.Common.{rules};
 ghost use Rattle.std.proofs.lemmas.Grind.{common_steps};
-ghost use Rattle.normal.specs.Classes.{class_of, class_steps};
+ghost use Rattle.normal.specs.Classes.{class_of, class_steps, rep_of};
 
 use explore::entry::Entry;
 use explore::stepping::Stepping;
@@ -34,7 +34,7 @@ impl<M: TreeAutomaton> ClassSteps<'_, '_, '_, M> {
     // The representative of the class.
     fn rep(&self, e: &Class) -> usize
         requires { e.now.0 < self.now.count }
-        ensures { result ≡ slice_index self.now.reps.now e.now.0 }
+        ensures { result ≡ rep_of self.now.reps.now e.now }
     {
         self.reps[e.0 as usize] as usize
     }
@@ -60,7 +60,7 @@ impl<M: TreeAutomaton> Stepping<Class> for ClassSteps<'_, '_, '_, M> {
 
     ghost steps = { λ c. class_steps (M.TreeAutomaton.letters c.machine.now) (M.TreeAutomaton.meaning c.machine.now) c.classes.now c.reps.now c.count };
 
-    ghost prepared = { λ c p row. (row.state ≡ slice_index c.reps.now p.0) × M.TreeAutomaton.prepared c.machine.now row.state row.row };
+    ghost prepared = { λ c p row. (row.state ≡ rep_of c.reps.now p) × M.TreeAutomaton.prepared c.machine.now row.state row.row };
 
     fn accepts(&self, e: &Class) -> bool {
         self.machine.accepts(self.rep(e))
