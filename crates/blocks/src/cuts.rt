@@ -42,6 +42,7 @@ pub fn cut_two<'t, 'a>(tokens: &'t [Token<'a>]) -> Option<WordLine<'t, 'a, (&'a 
 }
 
 // The line of three words that the tokens begin with.
+// Beside `cut_two`, not one function of the number of words: a slice pattern each is plainer than a loop over tokens.
 pub fn cut_three<'t, 'a>(
     tokens: &'t [Token<'a>],
 ) -> Option<WordLine<'t, 'a, (&'a [u8], &'a [u8], &'a [u8])>>

@@ -8,6 +8,7 @@ use labels::set::GuardSet;
 use std::alloc::{AllocError, Global};
 use std::fmt::Write;
 
+// A function and no `Display`, since the table is another crate's type.
 pub fn print_table(heap: Global, table: &AtomTable) -> Result<String, AllocError>
     ensures { IfOk result (λ s. string_bytes s ≡ table_text table.now.atoms table.now.guards table.now.count) }
 {
