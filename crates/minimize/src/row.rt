@@ -27,7 +27,7 @@ impl<M: TreeAutomaton> Partitioned<'_, M> {
         ensures { RowOf self.now (letters self.now) x q result }
     {
         let mut classes = [0; 16];
-        // by index: with `iter_mut().enumerate().take(..)` a proof learns nothing of the entries
+        // by index: with `iter_mut().enumerate()` a proof learns nothing of the entries
         for a in 0..self.machine.atoms() {
             classes[a] = self.class_beside(x, row, q, a);
         }
@@ -61,8 +61,8 @@ impl<M: TreeAutomaton> Partitioned<'_, M> {
         ensures { MatchOption result (RowOf self.now (letters self.now) x q wanted.now) (λ a. (a < letters self.now) × (at wanted.now a ≢ beside self.now x q a)) }
     {
         // `find` with a closure takes a third longer over all states
-        for a in 0..self.machine.atoms() {
-            if self.class_beside(x, row, q, a) != wanted[a] {
+        for (a, &class) in wanted[..self.machine.atoms()].iter().enumerate() {
+            if self.class_beside(x, row, q, a) != class {
                 return Some(a);
             }
         }

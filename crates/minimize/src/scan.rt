@@ -70,8 +70,8 @@ impl<M: TreeAutomaton> Partitioned<'_, M> {
     {
         let row = self.machine.row(x);
         let table = self.beside_representatives(x, &row);
-        for y in 0..self.machine.size() {
-            if let Some(a) = self.first_difference(x, &row, y, &table[self.classes[y] as usize]) {
+        for (y, &class) in self.classes.iter().enumerate() {
+            if let Some(a) = self.first_difference(x, &row, y, &table[class as usize]) {
                 let test = Test::Right(x, a);
                 return Some(Found { state: y, test });
             }
