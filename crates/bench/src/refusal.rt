@@ -27,7 +27,7 @@ pub enum Refusal {
 }
 
 impl Refusal {
-    // The number of the refusal.
+    // The number of the refusal. By cases: cases that name a place have no discriminant.
     pub fn number(self) -> u32
         ensures { result ≡ number_of self }
     {

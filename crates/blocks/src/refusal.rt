@@ -29,6 +29,7 @@ pub enum Refusal {
 }
 
 impl Refusal {
+    // By cases: cases that name a line have no discriminant.
     pub fn number(self) -> u32
         ensures { result ≡ number_of self }
     {

@@ -11,8 +11,8 @@ use Rattle.minimize.specs.declared.test.Test.TheVariants.{Accepts, Single, Left,
 use Rattle.minimize.specs.declared.test.Found.{Found}
 
 module _ {M R : Type 0} {g : Ghosts M R} (s : Partitioned M R g) where
-  abbrev pub letters : ℕ
-  letters = g.letters s.machine.now
+  abbrev pub atom_count : ℕ
+  atom_count = g.letters s.machine.now
 
   abbrev pub automaton : Automaton
   automaton = g.meaning s.machine.now
@@ -35,7 +35,7 @@ module _ {M R : Type 0} {g : Ghosts M R} (s : Partitioned M R g) where
 
   -- the state answers the test otherwise
   abbrev pub SplitBy : Found → Type 0
-  SplitBy = Splits letters automaton s.classes.now s.reps.now
+  SplitBy = Splits atom_count automaton s.classes.now s.reps.now
 
   -- a state that splits its class was found, or All holds of what was looked at
   abbrev pub Looked : Type 0 → Option Found → Type 0
@@ -43,15 +43,15 @@ module _ {M R : Type 0} {g : Ghosts M R} (s : Partitioned M R g) where
 
   -- p is alike as the one child
   abbrev pub SingleAlike : ℕ → Type 0
-  SingleAlike p = (a : ℕ) → a < letters → AnswersAlike (Single a) p
+  SingleAlike p = (a : ℕ) → a < atom_count → AnswersAlike (Single a) p
 
   -- p is alike on the left of each of the representatives
   abbrev pub LeftAlike : ℕ → Type 0
-  LeftAlike p = (i a : ℕ) → i < s.count → a < letters → AnswersAlike (Left (rep_of i) a) p
+  LeftAlike p = (i a : ℕ) → i < s.count → a < atom_count → AnswersAlike (Left (rep_of i) a) p
 
   -- all states are alike on the right of x
   abbrev pub RightAlike : ℕ → Type 0
-  RightAlike x = (y a : ℕ) → y < automaton.size → a < letters → AnswersAlike (Right x a) y
+  RightAlike x = (y a : ℕ) → y < automaton.size → a < atom_count → AnswersAlike (Right x a) y
 
   -- p is alike under every test but those with a state on its left or with one that is no representative on its right
   pub record Near (p : ℕ) : Type 0 where
@@ -65,4 +65,4 @@ module _ {M R : Type 0} {g : Ghosts M R} (s : Partitioned M R g) where
 
   -- nothing tells two states of one class apart
   abbrev pub AllStable : Type 0
-  AllStable = Stable (atoms_below letters) automaton class_of
+  AllStable = Stable (atoms_below atom_count) automaton class_of

@@ -1,6 +1,6 @@
 -- The classes that one left child leads to.
 use Rattle.std.specs.Prelude.{◌≡◌, ℕ, ◌<◌, List, [], slice_index_or}
-use Rattle.minimize.specs.Looks.{letters, automaton, class_of, rep_of}
+use Rattle.minimize.specs.Looks.{atom_count, automaton, class_of, rep_of}
 use Rattle.minimize.specs.Tests.{at}
 use Rattle.minimize.specs.declared.automaton.TreeAutomaton.{Ghosts}
 use Rattle.minimize.specs.declared.partitioned.Partitioned.{Partitioned}
@@ -16,4 +16,4 @@ module _ {M R : Type 0} {g : Ghosts M R} (s : Partitioned M R g) where
 
   -- the table has such rows for the first of the representatives
   abbrev pub TableOf : ℕ → ℕ → List (List ℕ) → Type 0
-  TableOf count x table = (i : ℕ) → i < count → RowOf (letters s) x (rep_of s i) (slice_index_or table i [])
+  TableOf count x table = (i : ℕ) → i < count → RowOf (atom_count s) x (rep_of s i) (slice_index_or table i [])

@@ -3,7 +3,8 @@ ghost use Rattle.std.specs.Prelude.{◌≡◌, ℕ, ◌<◌};
 ghost use Rattle.trees.specs.Automata.{Automaton};
 ghost use Rattle.minimize.specs.Automata.{Fit};
 
-// A complete deterministic tree automaton over at most 16 atoms, with 1 to 1024 states.
+// A complete deterministic tree automaton over at most 16 atoms, with 1 to 1024 states. States and atoms are plain numbers: a type
+// for them would have to name the automaton that they are of, so each method says what it asks of them.
 pub trait TreeAutomaton {
     // What the automaton works out once of a left child, for all right children and atoms.
     type Row: Drop;

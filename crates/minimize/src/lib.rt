@@ -3,7 +3,6 @@
 #![tactic(auto)]
 
 pub mod automaton;
-//mod classes;
 pub mod fault;
 mod partitioned;
 pub mod refine;

@@ -17,7 +17,7 @@ pub struct Partitioned<'a, M: TreeAutomaton> {
 
 impl<M: TreeAutomaton> Partitioned<'_, M> {
     ghost use Rattle.std.specs.Prelude.{◌≡◌, ◌<◌, Decides};
-    ghost use Rattle.minimize.specs.Looks.{automaton, letters, class_of, rep_of, says, AnswersAlike};
+    ghost use Rattle.minimize.specs.Looks.{automaton, atom_count, class_of, rep_of, says, AnswersAlike};
     ghost use Rattle.minimize.specs.Tests.{Valid};
 
     // The representative of the class of p.
@@ -31,7 +31,7 @@ impl<M: TreeAutomaton> Partitioned<'_, M> {
     // What the test says of the state p.
     pub fn answer(&self, test: Test, p: usize) -> u16
         requires state { p < (automaton self.now).size }
-        requires valid { Valid (letters self.now) (automaton self.now) test }
+        requires valid { Valid (atom_count self.now) (automaton self.now) test }
         ensures { result ≡ says self.now test p }
     {
         let m = self.machine;
@@ -46,7 +46,7 @@ impl<M: TreeAutomaton> Partitioned<'_, M> {
     // Whether p and its representative answer the test alike.
     pub fn alike(&self, test: Test, p: usize) -> bool
         requires state { p < (automaton self.now).size }
-        requires valid { Valid (letters self.now) (automaton self.now) test }
+        requires valid { Valid (atom_count self.now) (automaton self.now) test }
         ensures { Decides result (AnswersAlike self.now test p) }
     {
         let r = self.representative(p);

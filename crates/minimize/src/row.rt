@@ -1,6 +1,6 @@
 // The classes that one left child leads to.
 ghost use Rattle.std.specs.Prelude.{◌≡◌, ◌<◌, MatchOption, ◌≢◌};
-ghost use Rattle.minimize.specs.Looks.{automaton, letters};
+ghost use Rattle.minimize.specs.Looks.{automaton, atom_count};
 ghost use Rattle.minimize.specs.Rows.{beside, RowOf, TableOf};
 ghost use Rattle.minimize.specs.Tests.{at};
 
@@ -13,7 +13,7 @@ impl<M: TreeAutomaton> Partitioned<'_, M> {
         requires left { x < (automaton self.now).size }
         requires row { M.prepared self.now.machine.now x row.now }
         requires right { q < (automaton self.now).size }
-        requires atom { a < letters self.now }
+        requires atom { a < atom_count self.now }
         ensures { result ≡ beside self.now x q a }
     {
         self.classes[self.machine.double(x, row, q, a)]
@@ -24,7 +24,7 @@ impl<M: TreeAutomaton> Partitioned<'_, M> {
         requires left { x < (automaton self.now).size }
         requires row { M.prepared self.now.machine.now x row.now }
         requires right { q < (automaton self.now).size }
-        ensures { RowOf self.now (letters self.now) x q result }
+        ensures { RowOf self.now (atom_count self.now) x q result }
     {
         let mut classes = [0; 16];
         // by index: with `iter_mut().enumerate()` a proof learns nothing of the entries
@@ -58,7 +58,7 @@ impl<M: TreeAutomaton> Partitioned<'_, M> {
         requires left { x < (automaton self.now).size }
         requires row { M.prepared self.now.machine.now x row.now }
         requires right { q < (automaton self.now).size }
-        ensures { MatchOption result (RowOf self.now (letters self.now) x q wanted.now) (λ a. (a < letters self.now) × (at wanted.now a ≢ beside self.now x q a)) }
+        ensures { MatchOption result (RowOf self.now (atom_count self.now) x q wanted.now) (λ a. (a < atom_count self.now) × (at wanted.now a ≢ beside self.now x q a)) }
     {
         // `find` with a closure takes a third longer over all states
         for (a, &class) in wanted[..self.machine.atoms()].iter().enumerate() {

@@ -1,6 +1,6 @@
 // Parts one class in two.
 ghost use Rattle.std.specs.Prelude.{◌≡◌, ◌<◌, length};
-ghost use Rattle.minimize.specs.Looks.{automaton, letters, class_of, rep_of, says, SplitBy};
+ghost use Rattle.minimize.specs.Looks.{automaton, atom_count, class_of, rep_of, says, SplitBy};
 ghost use Rattle.minimize.specs.Partitions.{Moved, Parted};
 ghost use Rattle.minimize.specs.Tests.{Valid};
 
@@ -11,7 +11,7 @@ use crate::test::{Found, Test};
 impl<M: TreeAutomaton> Partitioned<'_, M> {
     // The class of p when the class of r is parted, where r answers the test with `kept`.
     fn moved(&self, test: Test, r: usize, kept: u16, p: usize) -> u16
-        requires valid { Valid (letters self.now) (automaton self.now) test }
+        requires valid { Valid (atom_count self.now) (automaton self.now) test }
         requires states { (r < (automaton self.now).size) × (p < (automaton self.now).size) }
         requires known { kept ≡ says self.now test r }
         ensures { Moved (automaton self.now) self.now.classes.now test r self.now.count p result }
