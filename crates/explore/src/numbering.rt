@@ -14,7 +14,7 @@ pub struct Lookup<'e, 'h, E> {
 }
 
 impl<E: Entry> Lookup<'_, '_, E> {
-    // The place of the entry; the number of entries where it is not there.
+    // The place of the entry; the number of entries where it is not there, since steps of an automaton are total.
     pub fn place(&self, e: &E) -> usize
         requires once { (i j : ℕ) → i < j → j < length self.now.entries.now → Alike self.now.entries.now i j → ⊥ }
         ensures { result ≡ place_of E.eq self.now.entries.now e.now }
@@ -26,7 +26,7 @@ impl<E: Entry> Lookup<'_, '_, E> {
     pub(crate) fn find(&self, e: &E) -> Option<usize>
         ensures { Finds self.now.entries.now (length self.now.entries.now) e.now result }
     {
-        // Not `or_else`: nothing is known of what its closure answers without a clause longer than this.
+        // Not `or_else`: behind a bound, what its closure answers is known only by a clause of its own, longer than this.
         match self.guess(e) {
             Some(k) => Some(k),
             None => self.search(e),

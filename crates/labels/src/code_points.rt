@@ -80,6 +80,7 @@ impl LabelKind for CodePoints {
                 best
             }
         };
+        // A loop, not a chain: `flat_map` to the two edges of a range gets no proof.
         let mut best = lesser(None, 0);
         for given in &self.ranges {
             best = lesser(best, skip_surrogates(given.range.low));

@@ -61,9 +61,7 @@ impl LabelKind for EventWords {
         if guard > 31 {
             return Err(AddFault::Guard);
         }
-        let Some(pattern) = Pattern::read(value.as_bytes()) else {
-            return Err(AddFault::Value);
-        };
+        let pattern = Pattern::read(value.as_bytes()).ok_or(AddFault::Value)?;
         if self.patterns == 64 {
             return Err(AddFault::Full);
         }

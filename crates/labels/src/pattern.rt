@@ -35,7 +35,7 @@ impl Pattern {
     }
 }
 
-// Whether the character asks for its bit, and for which.
+// Whether the character asks for its bit, and for which: the digits that the care mask and the value get for it.
 fn bit(c: char) -> Option<(u32, u32)>
     ensures { Bit c result }
 {

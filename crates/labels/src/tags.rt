@@ -30,6 +30,7 @@ impl Tags {
     }
 }
 
+// Tags and event words hand the questions on to their table: the language has no delegation.
 impl LabelKind for Tags {
     type Value = Tag;
 
