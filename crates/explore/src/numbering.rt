@@ -6,7 +6,7 @@ ghost use Rattle.explore.specs.Numbers.{Alike, At, Finds, Guesses, Numbers};
 use crate::entry::Entry;
 
 // Entries, and hints that say where an entry may stand.
-#[derive(Clone, Copy)]
+#[derive(Clone, Copy, Debug)]
 pub struct Lookup<'e, 'h, E> {
     pub entries: &'e [E],
     // Lent cells of 16 bits: one more than the place, 0 for no hint.
@@ -129,7 +129,8 @@ impl<'e, 'h, E: Entry> Numbering<'e, 'h, E> {
     }
 }
 
-// Has a hint lead to the entry with number k: the first free one of those looked at, or the last.
+// Has a hint lead to the entry with number k: the first free one of those looked at, or the last. No contract: each hint is checked
+// where it is read, so that nothing rests on what stands in it.
 fn note<E: Entry>(hints: &mut [u16], e: &E, k: usize) {
     let start = e.hint() % HINTS;
     let last = start + LOOKS - 1;

@@ -5,7 +5,8 @@ ghost use Rattle.explore.specs.Steps.{Steps, Fit};
 use crate::entry::Entry;
 
 // Steps from the things of a node's children, with its label, to the thing of the node; and which things accept. A method says what
-// it asks of a thing or a label: a type for them would have to name the steps that they belong to.
+// it asks of a thing or a label: a type for them would have to name the steps that they belong to. The automata that `minimize` takes
+// answer the same over numbers; `normal` makes the one of the other.
 pub trait Stepping<E: Entry> {
     // What is prepared for one left child, so that it is worked out once for all right children and labels.
     type Row: Drop;

@@ -52,7 +52,5 @@ fn remember(firsts: &mut [u16], k: usize, children: Children, label: usize)
         Children::One(p) => (p as u16, ABSENT),
         Children::Two(p, q) => (p as u16, q as u16),
     };
-    firsts[3 * k] = left;
-    firsts[3 * k + 1] = right;
-    firsts[3 * k + 2] = label as u16;
+    firsts[3 * k..3 * k + 3].copy_from_slice(&[left, right, label as u16]);
 }
