@@ -22,7 +22,7 @@ fn grid(heap: Global, firsts: &[u32], seconds: &[u32]) -> Result<Vec<u64>, Alloc
         .collect(heap)
 }
 
-// The guards that hold of the label.
+// The guards that hold of the label, by `holds` alone, so that nothing under test answers for itself.
 fn guards_at<K: LabelKind>(kind: &K, label: u64) -> GuardSet {
     GuardSet::from_fn(|g| kind.holds(g, label))
 }

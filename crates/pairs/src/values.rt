@@ -8,7 +8,8 @@ ghost use Rattle.pairs.specs.declared.value.PairValue.{PairValue};
 use crate::value::PairValue;
 use labels::set::GuardSet;
 
-// The values by their guards, one each at most; the guards that have one lie below `guards`.
+// The values by their guards, one each at most; the guards that have one lie below `guards`. An array, not a map: a pair is made
+// without memory from the heap, and guards are its indices.
 #[derive(Drop)]
 pub struct Values {
     list: [Option<PairValue>; 32],

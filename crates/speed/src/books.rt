@@ -60,7 +60,7 @@ const STEPS: [[(u32, u32); 2]; 4] = [
     [(0x10FFF1, 0x10FFF6), (0x10FFFD, 0x10FFFE)],
 ];
 
-// Guards 0 to 3 make 16 atoms; each later guard is one of these again, and is asked about in all 16.
+// As `split_words`, with ranges.
 pub(crate) fn split_points(heap: Global) -> anyhow::Result<CodePoints> {
     let mut points = CodePoints::new(heap)?;
     for guard in 0..32u32 {

@@ -32,6 +32,7 @@ fn main(rt: HostRuntime) -> anyhow::Result<()> {
 
 fn measure<K: LabelKind>(rt: &HostRuntime, what: &str, kind: &K) -> io::Result<()> {
     let mut table = AtomTable::fresh();
+    // overwritten, as there is one run at least
     let mut answer = Err(TooManyAtoms);
     let start = Instant::now(rt)?;
     for _ in 0..RUNS {
