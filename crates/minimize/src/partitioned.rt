@@ -28,7 +28,7 @@ impl<M: TreeAutomaton> Partitioned<'_, M> {
         self.reps[self.classes[p] as usize] as usize
     }
 
-    // What the test says of the state p.
+    // What the test says of the state p, a truth value or a class in one number: answers are only compared.
     pub fn answer(&self, test: Test, p: usize) -> u16
         requires state { p < (automaton self.now).size }
         requires valid { Valid (atom_count self.now) (automaton self.now) test }

@@ -27,7 +27,7 @@ impl<M: TreeAutomaton> Partitioned<'_, M> {
         ensures { RowOf self.now (atom_count self.now) x q result }
     {
         let mut classes = [0; 16];
-        // by index: with `iter_mut().enumerate()` a proof learns nothing of the entries
+        // by index: with `iter_mut().enumerate()` a proof learns nothing of the entries of a local array
         for a in 0..self.machine.atoms() {
             classes[a] = self.class_beside(x, row, q, a);
         }

@@ -9,7 +9,7 @@ use explore::entry::Entry;
 use explore::stepping::Stepping;
 use minimize::automaton::TreeAutomaton;
 
-#[derive(Clone, Copy, PartialEq, Eq)]
+#[derive(Clone, Copy, Debug, PartialEq, Eq)]
 pub struct Class(pub u16);
 
 impl Entry for Class {

@@ -4,15 +4,15 @@ ghost use Rattle.normal.specs.Orders.{Orders};
 
 use crate::class::{Class, ClassSteps};
 use explore::search::explore;
-use explore::stepping::Stepping;
 use minimize::automaton::TreeAutomaton;
 use minimize::fault::TooManyClasses;
 use minimize::refine::minimize;
 
-// How many classes there are, and how many places of the order they take.
-#[derive(Clone, Copy)]
+// How many classes there are, and how many of them are in the order.
+#[derive(Clone, Copy, Debug, PartialEq, Eq)]
 pub struct Ordered {
     pub count: usize,
+    // how many of the classes steps lead to: the places of the order that they take
     pub size: usize,
 }
 
@@ -40,6 +40,7 @@ pub fn order_classes<M: TreeAutomaton>(
         reps,
         count,
     };
+    // without hints, since at most 32 classes are searched plainly
     let size = explore(&steps, order, &mut [], firsts).unwrap();
     Ok(Ordered { count, size })
 }
