@@ -9,7 +9,7 @@ use crate::partitioned::Partitioned;
 
 impl<M: TreeAutomaton> Partitioned<'_, M> {
     // The class that x on the left, q on the right and the atom a lead to.
-    pub fn class_beside(&self, x: usize, row: &M::Row, q: usize, a: usize) -> u16
+    pub(crate) fn class_beside(&self, x: usize, row: &M::Row, q: usize, a: usize) -> u16
         requires left { x < (automaton self.now).size }
         requires row { M.prepared self.now.machine.now x row.now }
         requires right { q < (automaton self.now).size }
@@ -35,7 +35,7 @@ impl<M: TreeAutomaton> Partitioned<'_, M> {
     }
 
     // For each representative on the right of x, the classes that they lead to.
-    pub fn beside_representatives(&self, x: usize, row: &M::Row) -> [[u16; 16]; 32]
+    pub(crate) fn beside_representatives(&self, x: usize, row: &M::Row) -> [[u16; 16]; 32]
         requires left { x < (automaton self.now).size }
         requires row { M.prepared self.now.machine.now x row.now }
         ensures { TableOf self.now self.now.count x result }
@@ -48,7 +48,7 @@ impl<M: TreeAutomaton> Partitioned<'_, M> {
     }
 
     // The first atom with which x on the left and q on the right lead to another class than the row says.
-    pub fn first_difference(
+    pub(crate) fn first_difference(
         &self,
         x: usize,
         row: &M::Row,

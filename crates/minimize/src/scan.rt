@@ -51,7 +51,7 @@ impl<M: TreeAutomaton> Partitioned<'_, M> {
         ensures { Looked self.now (LeftAlike self.now p) result }
     {
         let row = self.machine.row(p);
-        let r = self.representative(p);
+        let r = self.representative(self.classes[p]);
         let table = self.beside_representatives(r, &self.machine.row(r));
         for (i, &y) in self.reps[..self.count].iter().enumerate() {
             let y = y as usize;
@@ -127,7 +127,7 @@ impl<M: TreeAutomaton> Partitioned<'_, M> {
 
     // Looks for a split, and far from the representatives only where there is none near them. Where the looking starts does
     // not matter to whether there is one. By `if let`, as above.
-    pub fn find_split(&self, state: usize, row: usize) -> Option<Found>
+    pub(crate) fn find_split(&self, state: usize, row: usize) -> Option<Found>
         ensures { Looked self.now (AllStable self.now) result }
     {
         if let Some(found) = self.near(state) {

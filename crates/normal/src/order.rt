@@ -2,10 +2,11 @@
 ghost use Rattle.std.specs.Prelude.{◌≡◌, ◌≤◌, length};
 ghost use Rattle.normal.specs.Orders.{Orders};
 
-use crate::class::{Class, ClassSteps};
+use crate::class::Class;
 use explore::search::explore;
 use minimize::automaton::TreeAutomaton;
 use minimize::fault::TooManyClasses;
+use minimize::partitioned::Partitioned;
 use minimize::refine::minimize;
 
 // How many classes there are, and how many of them are in the order.
@@ -34,7 +35,7 @@ pub fn order_classes<M: TreeAutomaton>(
     ensures { Orders (M.TreeAutomaton.letters m.now) (M.TreeAutomaton.meaning m.now) result classes.new reps.new order.new firsts.new }
 {
     let count = minimize(m, classes, next, reps)?;
-    let steps = ClassSteps {
+    let steps = Partitioned {
         machine: m,
         classes,
         reps,
