@@ -7,6 +7,7 @@ ghost use Rattle.minimize.specs.Tests.{at};
 use crate::automaton::TreeAutomaton;
 use crate::partitioned::Partitioned;
 
+// `x` and its row stay two: `prepared` of the trait may hold data, so a ghost field of a struct of both cannot state it.
 impl<M: TreeAutomaton> Partitioned<'_, M> {
     // The class that x on the left, q on the right and the atom a lead to.
     pub(crate) fn class_beside(&self, x: usize, row: &M::Row, q: usize, a: usize) -> u16
