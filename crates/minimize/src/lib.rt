@@ -4,7 +4,7 @@
 
 pub mod automaton;
 pub mod fault;
-mod partitioned;
+pub mod partitioned;
 pub mod refine;
 mod row;
 mod scan;

@@ -17,19 +17,19 @@ pub struct Partitioned<'a, M: TreeAutomaton> {
 
 impl<M: TreeAutomaton> Partitioned<'_, M> {
     ghost use Rattle.std.specs.Prelude.{◌≡◌, ◌<◌, Decides};
-    ghost use Rattle.minimize.specs.Looks.{automaton, atom_count, class_of, rep_of, says, AnswersAlike};
+    ghost use Rattle.minimize.specs.Looks.{automaton, atom_count, rep_of, says, AnswersAlike};
     ghost use Rattle.minimize.specs.Tests.{Valid};
 
-    // The representative of the class of p.
-    pub fn representative(&self, p: usize) -> usize
-        requires state { p < (automaton self.now).size }
-        ensures { result ≡ rep_of self.now (class_of self.now p) }
+    // The representative of the class.
+    pub fn representative(&self, class: u16) -> usize
+        requires class { class < self.now.count }
+        ensures { result ≡ rep_of self.now class }
     {
-        self.reps[self.classes[p] as usize] as usize
+        self.reps[class as usize] as usize
     }
 
-    // What the test says of the state p.
-    pub fn answer(&self, test: Test, p: usize) -> u16
+    // What the test says of the state p, a truth value or a class in one number: answers are only compared.
+    pub(crate) fn answer(&self, test: Test, p: usize) -> u16
         requires state { p < (automaton self.now).size }
         requires valid { Valid (atom_count self.now) (automaton self.now) test }
         ensures { result ≡ says self.now test p }
@@ -44,12 +44,12 @@ impl<M: TreeAutomaton> Partitioned<'_, M> {
     }
 
     // Whether p and its representative answer the test alike.
-    pub fn alike(&self, test: Test, p: usize) -> bool
+    pub(crate) fn alike(&self, test: Test, p: usize) -> bool
         requires state { p < (automaton self.now).size }
         requires valid { Valid (atom_count self.now) (automaton self.now) test }
         ensures { Decides result (AnswersAlike self.now test p) }
     {
-        let r = self.representative(p);
+        let r = self.representative(self.classes[p]);
         self.answer(test, p) == self.answer(test, r)
     }
 }

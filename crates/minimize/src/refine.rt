@@ -12,6 +12,7 @@ const MOST: usize = 32;
 
 // Writes the class of each state and the representative of each class, and answers how many classes there are. `next` is
 // room to work in.
+// Not a struct of the slices: each is lent on its own, and a struct's contract would say of each loan where it ends.
 pub fn minimize<M: TreeAutomaton>(
     m: &M,
     classes: &mut [u16],

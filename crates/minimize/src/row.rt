@@ -7,9 +7,10 @@ ghost use Rattle.minimize.specs.Tests.{at};
 use crate::automaton::TreeAutomaton;
 use crate::partitioned::Partitioned;
 
+// `x` and its row stay two: `prepared` of the trait may hold data, so a ghost field of a struct of both cannot state it.
 impl<M: TreeAutomaton> Partitioned<'_, M> {
     // The class that x on the left, q on the right and the atom a lead to.
-    pub fn class_beside(&self, x: usize, row: &M::Row, q: usize, a: usize) -> u16
+    pub(crate) fn class_beside(&self, x: usize, row: &M::Row, q: usize, a: usize) -> u16
         requires left { x < (automaton self.now).size }
         requires row { M.prepared self.now.machine.now x row.now }
         requires right { q < (automaton self.now).size }
@@ -27,7 +28,7 @@ impl<M: TreeAutomaton> Partitioned<'_, M> {
         ensures { RowOf self.now (atom_count self.now) x q result }
     {
         let mut classes = [0; 16];
-        // by index: with `iter_mut().enumerate()` a proof learns nothing of the entries
+        // by index: with `iter_mut().enumerate()` a proof learns nothing of the entries of a local array
         for a in 0..self.machine.atoms() {
             classes[a] = self.class_beside(x, row, q, a);
         }
@@ -35,7 +36,7 @@ impl<M: TreeAutomaton> Partitioned<'_, M> {
     }
 
     // For each representative on the right of x, the classes that they lead to.
-    pub fn beside_representatives(&self, x: usize, row: &M::Row) -> [[u16; 16]; 32]
+    pub(crate) fn beside_representatives(&self, x: usize, row: &M::Row) -> [[u16; 16]; 32]
         requires left { x < (automaton self.now).size }
         requires row { M.prepared self.now.machine.now x row.now }
         ensures { TableOf self.now self.now.count x result }
@@ -48,7 +49,7 @@ impl<M: TreeAutomaton> Partitioned<'_, M> {
     }
 
     // The first atom with which x on the left and q on the right lead to another class than the row says.
-    pub fn first_difference(
+    pub(crate) fn first_difference(
         &self,
         x: usize,
         row: &M::Row,

@@ -45,13 +45,13 @@ impl<M: TreeAutomaton> Partitioned<'_, M> {
         None
     }
 
-    // Looks at p on the left of representatives.
+    // Looks at p on the left of representatives. Beside `right_of`, since the items differ: here representatives, there classes.
     fn left_of(&self, p: usize) -> Option<Found>
         requires { p < (automaton self.now).size }
         ensures { Looked self.now (LeftAlike self.now p) result }
     {
         let row = self.machine.row(p);
-        let r = self.representative(p);
+        let r = self.representative(self.classes[p]);
         let table = self.beside_representatives(r, &self.machine.row(r));
         for (i, &y) in self.reps[..self.count].iter().enumerate() {
             let y = y as usize;
@@ -93,7 +93,10 @@ impl<M: TreeAutomaton> Partitioned<'_, M> {
         }
         self.left_of(p)
     }
+}
 
+// `near` and `far` stay two: the closure of each states its own clause.
+impl<M: TreeAutomaton> Partitioned<'_, M> {
     // Looks at every state near the representatives, from `start` on and round to it again.
     fn near(&self, start: usize) -> Option<Found>
         ensures { Looked self.now (Everywhere self.now (Near self.now)) result }
@@ -123,8 +126,8 @@ impl<M: TreeAutomaton> Partitioned<'_, M> {
     }
 
     // Looks for a split, and far from the representatives only where there is none near them. Where the looking starts does
-    // not matter to whether there is one.
-    pub fn find_split(&self, state: usize, row: usize) -> Option<Found>
+    // not matter to whether there is one. By `if let`, as above.
+    pub(crate) fn find_split(&self, state: usize, row: usize) -> Option<Found>
         ensures { Looked self.now (AllStable self.now) result }
     {
         if let Some(found) = self.near(state) {

@@ -24,13 +24,13 @@ impl<M: TreeAutomaton> Partitioned<'_, M> {
     }
 
     // Writes the classes with the class of the found state parted by the found test.
-    pub fn part(&self, found: Found, next: &mut [u16])
+    pub(crate) fn part(&self, found: Found, next: &mut [u16])
         requires splits { SplitBy self.now found }
         requires long { length next.old ≡ (automaton self.now).size }
         ensures long { length next.new ≡ length next.old }
         ensures parted { Parted (automaton self.now) self.now.classes.now found.test (rep_of self.now (class_of self.now found.state)) self.now.count next.new }
     {
-        let r = self.representative(found.state);
+        let r = self.representative(self.classes[found.state]);
         let kept = self.answer(found.test, r);
         for (p, class) in next.iter_mut().enumerate() {
             *class = self.moved(found.test, r, kept, p);

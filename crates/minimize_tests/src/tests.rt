@@ -7,6 +7,7 @@ use crate::tables::Tables;
 use minimize::automaton::TreeAutomaton;
 use minimize::fault::TooManyClasses;
 use minimize::refine::minimize;
+use std::alloc::AllocError;
 
 // How many classes there are, the class of each of the N states, and the representatives.
 fn minimized<M: TreeAutomaton, const N: usize>(
@@ -91,4 +92,12 @@ fn there_are_32_classes_at_most(rt: HostRuntime) {
     assert_eq!(rt; full, Ok(32));
     let (more, _, _) = minimized::<_, 33>(&Chain { size: 33 });
     assert_eq!(rt; more, Err(TooManyClasses));
+}
+
+#[test]
+fn the_refusal_says_why(rt: HostRuntime) -> Result<(), AllocError> {
+    let heap = rt.alloc();
+    let text = format!(in heap; "{TooManyClasses}")?;
+    assert_eq!(rt; &*text, "more than 32 classes");
+    Ok(())
 }

@@ -2,17 +2,18 @@
 ghost use Rattle.std.specs.Prelude.{◌≡◌, ◌≤◌, length};
 ghost use Rattle.normal.specs.Orders.{Orders};
 
-use crate::class::{Class, ClassSteps};
+use crate::class::Class;
 use explore::search::explore;
-use explore::stepping::Stepping;
 use minimize::automaton::TreeAutomaton;
 use minimize::fault::TooManyClasses;
+use minimize::partitioned::Partitioned;
 use minimize::refine::minimize;
 
-// How many classes there are, and how many places of the order they take.
-#[derive(Clone, Copy)]
+// How many classes there are, and how many of them are in the order.
+#[derive(Clone, Copy, Debug, PartialEq, Eq)]
 pub struct Ordered {
     pub count: usize,
+    // how many of the classes steps lead to: the places of the order that they take
     pub size: usize,
 }
 
@@ -34,12 +35,13 @@ pub fn order_classes<M: TreeAutomaton>(
     ensures { Orders (M.TreeAutomaton.letters m.now) (M.TreeAutomaton.meaning m.now) result classes.new reps.new order.new firsts.new }
 {
     let count = minimize(m, classes, next, reps)?;
-    let steps = ClassSteps {
+    let steps = Partitioned {
         machine: m,
         classes,
         reps,
         count,
     };
+    // without hints, since at most 32 classes are searched plainly
     let size = explore(&steps, order, &mut [], firsts).unwrap();
     Ok(Ordered { count, size })
 }
