@@ -1,5 +1,4 @@
 // The state of a tree of labels.
-ghost use Rattle.std.specs.Prelude.{◌≡◌, ◌≤◌, length};
 ghost use Rattle.bench.specs.Nodes.{Counted, AllShaped};
 ghost use Rattle.bench.specs.Shelves.{automaton};
 ghost use Rattle.bench.specs.Testing.{Roots};
