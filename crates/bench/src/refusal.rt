@@ -45,7 +45,8 @@ impl Refusal {
         }
     }
 
-    // The rule or the node at fault; 0 where the refusal names none.
+    // The rule or the node at fault. A number of the format that hosts read: 0 where the refusal names none; `number` tells
+    // that from rule 0 and node 0.
     pub fn place(self) -> usize
         ensures { result ≡ place_of self }
     {
