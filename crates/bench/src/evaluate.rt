@@ -17,6 +17,7 @@ impl Shelf<'_> {
         requires shaped { AllShaped nodes.now }
         ensures { Roots (K.LabelKind.book kind.now).meaning self.now.table.now.atoms self.now.table.now.count (automaton self.now.bytes.now) nodes.now result }
     {
+        // On the stack: a bench takes no memory but what it is lent.
         let mut states = ArrayVec::<u8, NODES>::new();
         for (i, node) in nodes.iter().enumerate() {
             let atom = atom_of(kind, self.table, node.label).ok_or(Refusal::UnknownLabel(i))?;
