@@ -6,7 +6,8 @@ use crate::split::all_atoms;
 use crate::table::AtomTable;
 use labels::kind::LabelKind;
 
-// Writes the atoms of the kind into the table, and answers how many atoms and how many guards there are.
+// Writes the atoms of the kind into the table, and answers how many atoms and how many guards there are. The caller hands the
+// record in, and it is unchanged where the call is refused; the answer is two plain numbers, as hosts read them.
 pub fn atoms<K: LabelKind>(kind: &K, table: &mut AtomTable) -> Result<(usize, u32), TooManyAtoms>
     ensures { Reads (K.LabelKind.book kind.now).meaning table.old result table.new }
 {

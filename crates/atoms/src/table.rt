@@ -7,7 +7,7 @@ use crate::atom::Atom;
 
 // At most 16 atoms by rising label, and the number of guards they speak of. Fresh, or written by `atoms`.
 // The count stands beside the array, since a table is a record of fixed size whose unused entries are zero.
-#[derive(Clone, Copy)]
+#[derive(Clone, Copy, Debug, PartialEq, Eq)]
 pub struct AtomTable {
     atoms: [Atom; 16],
     count: usize,

@@ -1,6 +1,6 @@
 -- The states of nodes, each from those of the nodes before it.
-use Rattle.std.proofs.Common.{◌≡◌, ℕ, zero, suc, ◌+◌, ◌<◌, Bool, List, length, get_or, set, Ok, sym, refl, ap, ◌∙◌, subst, arith, below_more}
-use Rattle.std.proofs.lemmas.List.{get_or-set_same, get_or-set_other}
+use Rattle.std.proofs.Common.{◌≡◌, ℕ, zero, suc, ◌+◌, ◌<◌, Bool, List, [], ◌∷◌, ◌++◌, length, get_or, Ok, sym, refl, ap, ◌∙◌, subst, arith, below_more}
+use Rattle.std.proofs.lemmas.List.{get_or_append_left, get_or_push}
 use Rattle.std.proofs.lemmas.Bool.{lt-ltb}
 use Rattle.labels.specs.Meaning.{Meaning}
 use Rattle.atoms.specs.Atoms.{Exactly}
@@ -64,12 +64,12 @@ module _ (m : Meaning) (xs : List Atom) (n : ℕ) (A : Automaton) (complete : Co
       line_evaluated (line node) refl b (subst (Exactly m (set_at xs a)) (sym (label_line node.children node.label node.left node.right)) exact)
 
 -- one node more
-pub one_evaluated : (m : Meaning) (xs : List Atom) (n : ℕ) (A : Automaton) → Complete (letters n) A → (nodes : List Node) (states : List ℕ) (i a s : ℕ) → i < length states → a < n → Exactly m (set_at xs a) (node_at nodes i).label → Below i (line_at nodes i) → s ≡ step A (combine (over (λ k. get_or states k 0) (line_at nodes i)) a) → ((k : ℕ) → k < i → Evaluated m xs n A nodes k (get_or states k 0)) → (k : ℕ) → k < i + 1 → Evaluated m xs n A nodes k (get_or (set states i s) k 0)
+pub one_evaluated : (m : Meaning) (xs : List Atom) (n : ℕ) (A : Automaton) → Complete (letters n) A → (nodes : List Node) (states : List ℕ) (i a s : ℕ) → length states ≡ i → a < n → Exactly m (set_at xs a) (node_at nodes i).label → Below i (line_at nodes i) → s ≡ step A (combine (over (λ k. get_or states k 0) (line_at nodes i)) a) → ((k : ℕ) → k < i → Evaluated m xs n A nodes k (get_or states k 0)) → (k : ℕ) → k < i + 1 → Evaluated m xs n A nodes k (get_or (states ++ s ∷ []) k 0)
 one_evaluated m xs n A complete nodes states i a s w l exact b e h =
     let P : ℕ → ℕ → Type 0 = λ j x. Evaluated m xs n A nodes j x in
-    below_more (λ k. P k (get_or (set states i s) k 0)) i
-    (λ k below. subst (P k) (sym (get_or-set_other states i k s 0 (omega arith))) (h k below))
-    (subst (P i) (sym e ∙ sym (get_or-set_same states i s 0 w)) (node_evaluated m xs n A complete nodes (λ j. get_or states j 0) i a l h b exact))
+    below_more (λ k. P k (get_or (states ++ s ∷ []) k 0)) i
+    (λ k below. subst (P k) (sym (get_or_append_left states (s ∷ []) 0 k (omega arith))) (h k below))
+    (subst (P i) (sym (get_or_push states s 0 i w ∙ e)) (node_evaluated m xs n A complete nodes (λ j. get_or states j 0) i a l h b exact))
 
 -- the root's state tells whether the shelf accepts
 pub ran_tests : (m : Meaning) (table : AtomTable) (bytes : List ℕ) (k : ℕ) (nodes : List Node) (used : AtomTable) (bs : List ℕ) (s : ℕ) (b : Bool) → k < shelves_in (length bytes) → bs ≡ shelf_at bytes k → used ≡ table → Counted nodes → AllShaped nodes → Roots m used.atoms used.count (automaton bs) nodes (Ok s) → b ≡ (automaton bs).accepts s → Tests m table.atoms table.count bytes k nodes (Ok b)

@@ -1,5 +1,5 @@
 -- The number of each refusal, and the place that it names.
-use Rattle.std.specs.Prelude.{ℕ}
+use Rattle.std.specs.Prelude.{ℕ, List, ◌++◌, codes, decimal}
 use Rattle.bench.specs.declared.refusal.Refusal.{Refusal}
 use Rattle.bench.specs.declared.refusal.Refusal.TheVariants.{WorkspaceTooShort, NoSuchShelf, TooManyRules, RuleOutOfShape, TooManySets, TooManyClasses, NodeListTooShort, NodeCount, NodeOutOfShape, UnknownLabel}
 
@@ -27,3 +27,16 @@ place_of NodeListTooShort = 0
 place_of NodeCount = 0
 place_of (NodeOutOfShape node) = node
 place_of (UnknownLabel node) = node
+
+-- what a refusal prints
+abbrev pub text_of : Refusal → List ℕ
+text_of WorkspaceTooShort = codes "too few cells in the workspace"
+text_of NoSuchShelf = codes "no such shelf"
+text_of TooManyRules = codes "more than 512 rules"
+text_of (RuleOutOfShape rule) = codes "rule " ++ (decimal rule ++ codes " is out of shape")
+text_of TooManySets = codes "more than 1024 sets of states"
+text_of TooManyClasses = codes "more than 32 classes"
+text_of NodeListTooShort = codes "fewer than 1024 places for nodes"
+text_of NodeCount = codes "no node, or more than 1024"
+text_of (NodeOutOfShape node) = codes "node " ++ (decimal node ++ codes " is out of shape")
+text_of (UnknownLabel node) = codes "no atom for the label of node " ++ decimal node

@@ -7,8 +7,7 @@ use Rattle.atoms.specs.declared.atom.Atom.{Atom}
 use Rattle.trees.specs.Trees.{Tree, leaf, one, two}
 use Rattle.trees.specs.Automata.{Automaton}
 use Rattle.trees.specs.Lines.{Stands}
-use Rattle.bench.specs.Shelves.{automaton}
-use Rattle.bench.specs.Benches.{shelves_in, shelf_at}
+use Rattle.bench.specs.Benches.{shelves_in, HasShelf, automaton_at}
 use Rattle.bench.specs.Nodes.{node_at, line_at, Counted, ShapedTo, AllShaped, FirstNot}
 use Rattle.bench.specs.Lookups.{Known}
 use Rattle.bench.specs.declared.node.Node.{Node}
@@ -37,11 +36,11 @@ Roots m xs n A nodes (Err e) = (i : ℕ) × (e ≡ UnknownLabel i) × FirstNot (
 
 -- whether shelf k accepts the tree that the last node stands for, or the first check that fails
 abbrev pub Tests : Meaning → List Atom → ℕ → List ℕ → ℕ → List Node → Result Bool Refusal → Type 0
-Tests m xs n bytes k nodes (Ok b) = (k < shelves_in (length bytes)) × Counted nodes × AllShaped nodes × ((j : ℕ) → j < length nodes → KnownTo m xs n nodes j) × (s : ℕ) × HasState m xs n (automaton (shelf_at bytes k)) nodes (length nodes - 1) s × (b ≡ (automaton (shelf_at bytes k)).accepts s)
+Tests m xs n bytes k nodes (Ok b) = HasShelf bytes k × Counted nodes × AllShaped nodes × ((j : ℕ) → j < length nodes → KnownTo m xs n nodes j) × (s : ℕ) × HasState m xs n (automaton_at bytes k) nodes (length nodes - 1) s × (b ≡ (automaton_at bytes k).accepts s)
 Tests m xs n bytes k nodes (Err NoSuchShelf) = shelves_in (length bytes) ≤ k
-Tests m xs n bytes k nodes (Err NodeCount) = (k < shelves_in (length bytes)) × (Counted nodes → ⊥)
-Tests m xs n bytes k nodes (Err (NodeOutOfShape i)) = (k < shelves_in (length bytes)) × Counted nodes × FirstNot (ShapedTo nodes) (length nodes) i
-Tests m xs n bytes k nodes (Err (UnknownLabel i)) = (k < shelves_in (length bytes)) × Counted nodes × AllShaped nodes × FirstNot (KnownTo m xs n nodes) (length nodes) i
+Tests m xs n bytes k nodes (Err NodeCount) = HasShelf bytes k × (Counted nodes → ⊥)
+Tests m xs n bytes k nodes (Err (NodeOutOfShape i)) = HasShelf bytes k × Counted nodes × FirstNot (ShapedTo nodes) (length nodes) i
+Tests m xs n bytes k nodes (Err (UnknownLabel i)) = HasShelf bytes k × Counted nodes × AllShaped nodes × FirstNot (KnownTo m xs n nodes) (length nodes) i
 Tests m xs n bytes k nodes (Err WorkspaceTooShort) = ⊥
 Tests m xs n bytes k nodes (Err TooManyRules) = ⊥
 Tests m xs n bytes k nodes (Err (RuleOutOfShape i)) = ⊥

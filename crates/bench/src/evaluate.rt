@@ -1,5 +1,4 @@
 // The state of a tree of labels.
-ghost use Rattle.std.specs.Prelude.{◌≡◌, ◌≤◌, length};
 ghost use Rattle.bench.specs.Nodes.{Counted, AllShaped};
 ghost use Rattle.bench.specs.Shelves.{automaton};
 ghost use Rattle.bench.specs.Testing.{Roots};
@@ -8,6 +7,7 @@ use crate::lookup::atom_of;
 use crate::node::{NODES, Node};
 use crate::refusal::Refusal;
 use crate::shelf::Shelf;
+use arrayvec::ArrayVec;
 use labels::kind::LabelKind;
 
 impl Shelf<'_> {
@@ -17,12 +17,12 @@ impl Shelf<'_> {
         requires shaped { AllShaped nodes.now }
         ensures { Roots (K.LabelKind.book kind.now).meaning self.now.table.now.atoms self.now.table.now.count (automaton self.now.bytes.now) nodes.now result }
     {
-        // A bench takes no memory but what it is lent, so there is a place for each node that a tree may have.
-        let mut states = [0; NODES];
+        // On the stack: a bench takes no memory but what it is lent.
+        let mut states = ArrayVec::<u8, NODES>::new();
         for (i, node) in nodes.iter().enumerate() {
             let atom = atom_of(kind, self.table, node.label).ok_or(Refusal::UnknownLabel(i))?;
-            states[i] = self.next(node.over(&states), atom);
+            states.push(self.next(node.over(&states), atom));
         }
-        Ok(states[nodes.len() - 1])
+        Ok(*states.last().unwrap())
     }
 }

@@ -1,5 +1,4 @@
 // Whether a shelf's schema has a tree.
-ghost use Rattle.std.specs.Prelude.{length};
 ghost use Rattle.bench.specs.Testing.{Tests};
 
 use crate::bench::Bench;

@@ -1,6 +1,9 @@
 // Why a call is refused.
-ghost use Rattle.std.specs.Prelude.{◌≡◌};
-ghost use Rattle.bench.specs.Refusals.{number_of, place_of};
+ghost use Rattle.std.specs.Prelude.{◌≡◌, Some};
+ghost use Rattle.bench.specs.Refusals.{number_of, place_of, text_of};
+
+use std::error::Error;
+use std::fmt;
 
 #[derive(Clone, Copy, Debug, PartialEq, Eq)]
 pub enum Refusal {
@@ -45,7 +48,8 @@ impl Refusal {
         }
     }
 
-    // The rule or the node at fault; 0 where the refusal names none.
+    // The rule or the node at fault. A number of the format that hosts read: 0 where the refusal names none; `number` tells
+    // that from rule 0 and node 0.
     pub fn place(self) -> usize
         ensures { result ≡ place_of self }
     {
@@ -55,3 +59,24 @@ impl Refusal {
         }
     }
 }
+
+impl fmt::Display for Refusal {
+    ghost output = { λ refusal. Some (text_of refusal) };
+
+    fn fmt<W: fmt::Write>(&self, f: &mut fmt::Formatter<W>) -> fmt::Result {
+        match *self {
+            Refusal::WorkspaceTooShort => f.write_str("too few cells in the workspace"),
+            Refusal::NoSuchShelf => f.write_str("no such shelf"),
+            Refusal::TooManyRules => f.write_str("more than 512 rules"),
+            Refusal::RuleOutOfShape(rule) => write!(f, "rule {rule} is out of shape"),
+            Refusal::TooManySets => f.write_str("more than 1024 sets of states"),
+            Refusal::TooManyClasses => f.write_str("more than 32 classes"),
+            Refusal::NodeListTooShort => f.write_str("fewer than 1024 places for nodes"),
+            Refusal::NodeCount => f.write_str("no node, or more than 1024"),
+            Refusal::NodeOutOfShape(node) => write!(f, "node {node} is out of shape"),
+            Refusal::UnknownLabel(node) => write!(f, "no atom for the label of node {node}"),
+        }
+    }
+}
+
+impl Error for Refusal {}

@@ -13,6 +13,7 @@ impl Drop for Cleared<'_> {
         ensures rest { (k : ℕ) → 32768 ≤ k → slice_index self.exit.0.now k ≡ slice_index self.entry.0.now k }
     {
         wipe(self.0);
+        // Rattle's `drop` takes its value, and has to take it apart where it ends.
         let Cleared(_) = self;
     }
 }

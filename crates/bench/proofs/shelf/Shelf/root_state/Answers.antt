@@ -1,7 +1,4 @@
-use Rattle.std.proofs.Common.{ℕ, ◌<◌, length, Some, ap, ◌∙◌, arith, below_more}
-use Rattle.std.proofs.lemmas.List.{length-set}
-use Rattle.trees.specs.Rounds.{step}
-use Rattle.bench.specs.Combining.{combine}
+use Rattle.std.proofs.Common.{ℕ, ◌<◌, length, Some, arith, rules, below_more}
 use Rattle.bench.specs.Lookups.{Names}
 use Rattle.bench.specs.Nodes.{node_at}
 use Rattle.bench.specs.Shelves.{automaton}
@@ -21,10 +18,10 @@ loop-i-preserved g c =
     let named : Names m table.atoms table.count (node_at nodes i).label (Some atom) = rw c.in_ok-atom.ensures.ok_part at c.atom_of.ensures in
     let within : i < length nodes = omega arith in
     record {
-      long = length-set c.loop-i.states i c.next.result ∙ inv.long;
+      long = search rules;
       known = below_more (KnownTo m table.atoms table.count nodes) i inv.known (atom, named.0, named.1);
-      evaluated =
-          one_evaluated m table.atoms table.count A c.args.self.now.complete nodes c.loop-i.states i atom c.next.result (omega (arith, inv.long, c.requires.counted.1)) named.0 named.1 (c.requires.shaped i within).1
-          (◌∙◌ {b = step A (combine c.over.result atom)} c.next.ensures (ap (λ x. step A (combine x atom)) c.over.ensures))
-          inv.evaluated;
+      evaluated = rw c.push.ensures.items (
+          one_evaluated m table.atoms table.count A c.args.self.now.complete nodes c.loop-i.states.items i atom c.next.result inv.long named.0 named.1 (c.requires.shaped i within).1
+          (search rules)
+          inv.evaluated);
     }

@@ -9,7 +9,7 @@ invariant-loop-i g l =
     let m = (g.K.LabelKind.book l.kind).meaning in
     let table = l.self.table.now in
     record {
-      long : length l.states ≡ 1024;
+      long : length l.states.items ≡ l.i;
       known : (k : ℕ) → k < l.i → KnownTo m table.atoms table.count l.nodes k;
-      evaluated : (k : ℕ) → k < l.i → Evaluated m table.atoms table.count (automaton l.self.bytes.now) l.nodes k (get_or l.states k 0);
+      evaluated : (k : ℕ) → k < l.i → Evaluated m table.atoms table.count (automaton l.self.bytes.now) l.nodes k (get_or l.states.items k 0);
     }
