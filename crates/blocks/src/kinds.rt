@@ -1,5 +1,5 @@
 // How each kind's values are written in a line. Each kind names its own columns; what they share is `cuts`, number words and `?`.
-ghost use Rattle.std.specs.Prelude.{◌≡◌, refl, IfOk, string_bytes, ◌==◌, nat_lt};
+ghost use Rattle.std.specs.Prelude.{refl, IfOk, string_bytes, ◌==◌, nat_lt};
 ghost use Rattle.labels.specs.Patterns.{pattern_formed, matches};
 ghost use Rattle.labels.specs.Ranges.{range_formed, in_range};
 ghost use Rattle.blocks.specs.Rows.{Format.ranges, Format.tags, Format.patterns, SamePattern};
