@@ -31,7 +31,7 @@ where
 {
     take_rows(heap, &mut kind, tokens)?;
     if let Some(line) = bad {
-        return Err(Stop::Refused(Refusal::Line(line)));
+        return Err(Refusal::Line(line).into());
     }
     let mut table = AtomTable::fresh();
     atoms(&kind, &mut table)?;
@@ -43,6 +43,7 @@ fn say(heap: Global, text: &ScannedText<'_>) -> Result<String, Stop>
     ensures { Gives result (Says (map sign_of text.now.tokens.items) text.now.bad) }
 {
     let tokens = text.tokens.as_slice();
+    // One step for each kind: each is another type, and some need memory to be made.
     if let Some(rows) = CodePoints::behind_names(tokens) {
         return table_of(heap, CodePoints::new(heap)?, rows, text.bad);
     }
@@ -52,7 +53,7 @@ fn say(heap: Global, text: &ScannedText<'_>) -> Result<String, Stop>
     if let Some(rows) = EventWords::behind_names(tokens) {
         return table_of(heap, EventWords::new(heap)?, rows, text.bad);
     }
-    Err(Stop::Refused(Refusal::Line(1)))
+    Err(Refusal::Line(1).into())
 }
 
 // The most bytes that a text may have.
@@ -63,7 +64,7 @@ fn report(heap: Global, text: &[u8]) -> Result<String, Stop>
     ensures { MatchResult result (λ s. Spoken text.now (λ o. Tabulates o (string_bytes s))) (Stops (λ x. Refusing text.now x)) }
 {
     if text.len() > LIMIT {
-        return Err(Stop::Refused(Refusal::TooLong));
+        return Err(Refusal::TooLong.into());
     }
     say(heap, &scan(heap, text)?)
 }

@@ -1,10 +1,13 @@
-// How each kind's values are written in a line. Each kind names its own columns; what they share is `cuts`, number words and `?`.
-ghost use Rattle.std.specs.Prelude.{◌≡◌, refl, IfOk, string_bytes, ◌==◌, nat_lt};
+// How each kind's values are written in a line. Tags and patterns share lines of two words; the line of three is ranges' alone.
+ghost use Rattle.std.specs.Prelude.{◌≡◌, ◌≢◌, refl, ℕ, ◌<◌, List, ◌∷◌, map, length, MatchOption, MatchResult, IfOk, string_bytes, ◌==◌, nat_lt};
+ghost use Rattle.std.specs.Str.Parse.{digits_value};
 ghost use Rattle.labels.specs.Patterns.{pattern_formed, matches};
 ghost use Rattle.labels.specs.Ranges.{range_formed, in_range};
-ghost use Rattle.blocks.specs.Rows.{Format.ranges, Format.tags, Format.patterns, SamePattern};
+ghost use Rattle.text.specs.Numbers.{Numeral};
+ghost use Rattle.text.specs.Tokens.{Sign, Sign.word, Sign.line_end, sign_of};
+ghost use Rattle.blocks.specs.Rows.{Format.ranges, Format.tags, Format.patterns, Unread, SamePattern};
 
-use crate::cuts::{cut_three, cut_two, first_line};
+use crate::cuts::{WordLine, cut_three, cut_two, first_line};
 use crate::refusal::{Refusal, Stop};
 use crate::rows::{Readable, ValueRow};
 use labels::code_points::CodePoints;
@@ -24,17 +27,14 @@ impl Readable for Tags {
     ghost labels = { λ v x. (x == v.0) };
 
     fn behind_names<'t, 'a>(tokens: &'t [Token<'a>]) -> Option<&'t [Token<'a>]> {
-        let row = cut_two(tokens)?;
-        let names = (b"guard".as_slice(), b"tag".as_slice());
-        (row.words == names).then_some(row.rest)
+        behind_two(tokens, (b"guard", b"tag"))
     }
 
     fn read_row<'t, 'a>(
         _heap: Global,
         tokens: &'t [Token<'a>],
     ) -> Result<ValueRow<'t, 'a, Tag>, Stop> {
-        let row = cut_two(tokens).ok_or(Refusal::Line(first_line(tokens)))?;
-        let guard = number(row.words.0).ok_or(Refusal::Word(row.line))?;
+        let (guard, row) = guarded_two(tokens)?;
         let tag = number(row.words.1).ok_or(Refusal::Word(row.line))?;
         Ok(ValueRow {
             guard,
@@ -57,7 +57,7 @@ impl Readable for CodePoints {
 
     fn behind_names<'t, 'a>(tokens: &'t [Token<'a>]) -> Option<&'t [Token<'a>]> {
         let row = cut_three(tokens)?;
-        let names = (b"guard".as_slice(), b"low".as_slice(), b"high".as_slice());
+        let names: (&[u8], &[u8], &[u8]) = (b"guard", b"low", b"high");
         (row.words == names).then_some(row.rest)
     }
 
@@ -89,17 +89,14 @@ impl Readable for EventWords {
     ghost labels = { λ v. matches (string_bytes v) };
 
     fn behind_names<'t, 'a>(tokens: &'t [Token<'a>]) -> Option<&'t [Token<'a>]> {
-        let row = cut_two(tokens)?;
-        let names = (b"guard".as_slice(), b"pattern".as_slice());
-        (row.words == names).then_some(row.rest)
+        behind_two(tokens, (b"guard", b"pattern"))
     }
 
     fn read_row<'t, 'a>(
         heap: Global,
         tokens: &'t [Token<'a>],
     ) -> Result<ValueRow<'t, 'a, String>, Stop> {
-        let row = cut_two(tokens).ok_or(Refusal::Line(first_line(tokens)))?;
-        let guard = number(row.words.0).ok_or(Refusal::Word(row.line))?;
+        let (guard, row) = guarded_two(tokens)?;
         let value = pattern_text(heap, row.words.1)?;
         Ok(ValueRow {
             guard,
@@ -110,6 +107,26 @@ impl Readable for EventWords {
     }
 
     ghost plain = { λ _. (refl, refl) };
+}
+
+// The tokens behind a line of these two words, if they begin with it.
+fn behind_two<'t, 'a>(tokens: &'t [Token<'a>], names: (&[u8], &[u8])) -> Option<&'t [Token<'a>]>
+    ensures { MatchOption result ((n i k : ℕ) (ss : List Sign) → map sign_of tokens.now ≢ word names.entry.0.now n ∷ word names.entry.1.now i ∷ line_end k ∷ ss) (λ rest. (n : ℕ) × (i : ℕ) × (k : ℕ) × (map sign_of tokens.now ≡ word names.entry.0.now n ∷ word names.entry.1.now i ∷ line_end k ∷ map sign_of rest.now)) }
+{
+    let row = cut_two(tokens)?;
+    (row.words == names).then_some(row.rest)
+}
+
+// The first line of two words, and the guard that the first word names.
+fn guarded_two<'t, 'a>(
+    tokens: &'t [Token<'a>],
+) -> Result<(u32, WordLine<'t, 'a, (&'a [u8], &'a [u8])>), Refusal>
+    requires { 0 < length tokens.now }
+    ensures { MatchResult result (λ p. (i : ℕ) × (k : ℕ) × (map sign_of tokens.now ≡ word p.1.words.0.now p.1.line ∷ word p.1.words.1.now i ∷ line_end k ∷ map sign_of p.1.rest.now) × Numeral p.1.words.0.now × (p.0 ≡ digits_value 10 p.1.words.0.now)) (λ x. Unread tags (map sign_of tokens.now) x × Unread patterns (map sign_of tokens.now) x) }
+{
+    let row = cut_two(tokens).ok_or(Refusal::Line(first_line(tokens)))?;
+    let guard = number(row.words.0).ok_or(Refusal::Word(row.line))?;
+    Ok((guard, row))
 }
 
 // The word as text; a word that is no text is no pattern, as the empty text is none.

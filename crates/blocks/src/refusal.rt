@@ -29,7 +29,7 @@ pub enum Refusal {
 }
 
 impl Refusal {
-    // By cases: cases that name a line have no discriminant.
+    // The number that is printed. By cases: cases that name a line have no discriminant, and `AddFault` numbers only three.
     pub fn number(self) -> u32
         ensures { result ≡ number_of self }
     {
@@ -44,7 +44,7 @@ impl Refusal {
         }
     }
 
-    // The text line, or 0.
+    // The text line; 0 where there is none, since a refusal is printed as two numbers.
     pub fn place(self) -> u32
         ensures { result ≡ place_of self }
     {
@@ -67,7 +67,7 @@ impl fmt::Display for Refusal {
 }
 
 // Why a reading stopped.
-#[derive(Clone, Copy)]
+#[derive(Clone, Copy, Debug, PartialEq, Eq)]
 pub enum Stop {
     Refused(Refusal),
     Memory(AllocError),

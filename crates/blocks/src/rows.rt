@@ -1,16 +1,16 @@
 // The value lines of a guard block.
-ghost use Rattle.std.specs.Prelude.{◌≡◌, ℕ, ◌+◌, ◌<◌, Bool, List, map, length, MatchOption, MatchResult};
+ghost use Rattle.std.specs.Prelude.{◌≡◌, ℕ, ◌<◌, Bool, List, map, length, MatchOption, MatchResult};
 ghost use Rattle.labels.specs.Adding.{Added};
 ghost use Rattle.text.specs.Tokens.{Sign, sign_of};
 ghost use Rattle.blocks.specs.Answers.{Named};
-ghost use Rattle.blocks.specs.Rows.{Format, Writes, Unread, Held, Takes, Refuses, Stops, CanAdd, CannotAdd};
+ghost use Rattle.blocks.specs.Rows.{Format, Writes, Unread, Stops, CanAdd, CannotAdd};
 
 use crate::refusal::{Refusal, Stop};
 use labels::kind::{AddFault, LabelKind};
 use std::alloc::Global;
 use text::token::Token;
 
-// What a line says: a guard, a value for it, and the tokens behind the line.
+// What a line says: a guard, a value for it, the line's number, and the tokens behind the line.
 #[derive(Drop)]
 pub struct ValueRow<'t, 'a, V> {
     pub guard: u32,
@@ -53,6 +53,7 @@ pub fn add_at<K: LabelKind>(
 ) -> Result<(), Stop>
     ensures { MatchResult result (λ _. CanAdd (K.LabelKind.book kind.old) guard value.now × Added (K.LabelKind.book kind.old) guard value.now (K.LabelKind.book kind.new)) (Stops (CannotAdd (K.LabelKind.book kind.old) guard value.now line)) }
 {
+    // Case by case: a fault of adding knows no line.
     kind.add(guard, value).map_err(|fault| match fault {
         AddFault::Guard => Refusal::Guard(line),
         AddFault::Value => Refusal::Value(line),

@@ -1,6 +1,6 @@
 -- How a text is cut into lines. Assumes nothing.
-use Rattle.std.proofs.Common.{◌≡◌, ℕ, ◌+◌, ◌≤◌, List, [], ◌∷◌, ◌++◌, map, length, Some, None, Option, sym, ap, ◌∙◌, subst, subst₂, append_assoc, append-nil, arith}
-use Rattle.std.proofs.lemmas.List.{map-append, nil_from_length}
+use Rattle.std.proofs.Common.{◌≡◌, ℕ, ◌+◌, ◌≤◌, List, [], ◌∷◌, ◌++◌, map, length, Some, None, Option, sym, ap, ◌∙◌, subst, subst₂, append-nil, arith}
+use Rattle.std.proofs.lemmas.List.{nil_from_length}
 use Rattle.text.specs.declared.token.Token.{Token}
 use Rattle.text.specs.Tokens.{Sign, block_end, sign_of, Bad, LineAdded, Scanned, end, blank, bad}
 
@@ -17,15 +17,6 @@ blank_line n text next e before t is since pushed = record {
 pub record Sofar (text rest : List ℕ) (n : ℕ) (tokens : List Token) : Type 0 where
   pub goes_on : (ss : List Sign) (b : Option ℕ) → Scanned n rest ss b → Scanned 1 text (map sign_of tokens ++ ss) b
   pub small : n + length rest ≤ 1 + length text
-
--- one more line keeps it
-pub one_line : (text rest : List ℕ) (n : ℕ) (before since : List Token) (after : List ℕ) → Sofar text rest n before → LineAdded n rest before since after → Sofar text after (n + 1) since
-one_line text rest n before since after h l = record {
-  goes_on = λ ss b s.
-      let signs : map sign_of since ++ ss ≡ map sign_of before ++ (map sign_of l.more ++ ss) = ap (λ (ts : List Token). map sign_of ts ++ ss) l.added ∙ ap (λ (gs : List Sign). gs ++ ss) (map-append sign_of before l.more) ∙ append_assoc (map sign_of before) (map sign_of l.more) ss in
-      subst (λ (gs : List Sign). Scanned 1 text gs b) (sym signs) (h.goes_on (map sign_of l.more ++ ss) b (l.goes_on ss b s));
-  small = omega (arith, l.shorter, h.small);
-}
 
 pub all_lines : (text rest : List ℕ) (n : ℕ) (tokens : List Token) → Sofar text rest n tokens → length rest ≡ 0 → Scanned 1 text (map sign_of tokens) None
 all_lines text rest n tokens h none =

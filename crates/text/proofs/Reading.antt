@@ -1,10 +1,10 @@
 -- What one turn over a word's digits keeps. Assumes nothing.
-use Rattle.std.proofs.Common.{◌≡◌, ℕ, suc, ◌+◌, ◌-◌, ◌*◌, ◌^◌, ◌<◌, ◌≤◌, List, ◌∷◌, length, get_or, take, drop, Some, None, Option, sym, refl, ap, ◌∙◌, subst, mul-le-mul_right, mul_assoc, add-mul, le-mul_of_pos_right, arith, SomeIff}
+use Rattle.std.proofs.Common.{◌≡◌, ℕ, suc, ◌+◌, ◌-◌, ◌*◌, ◌^◌, ◌<◌, ◌≤◌, List, ◌∷◌, length, get_or, take, drop, Some, None, Option, sym, ap, ◌∙◌, subst, mul-le-mul_right, mul_assoc, add-mul, le-mul_of_pos_right, arith, SomeIff}
 use native.Mathlib.Nat.{pow-succ', one-le-pow}
 use Rattle.std.specs.Str.Parse.{digits_value, digits_value_after}
 use Rattle.std.specs.Char.{digit_value}
 use Rattle.std.specs.List.{All}
-use Rattle.std.proofs.lemmas.List.Elements.{All-cons, All-tail, All-nil, All-more}
+use Rattle.std.proofs.lemmas.List.Elements.{All-cons, All-tail, All-more}
 use Rattle.std.proofs.lemmas.List.{drop_more, at_drop_more, at_drop_all, take_all}
 use Rattle.std.proofs.lemmas.Bool.Decides.{nat_tests}
 use Rattle.text.specs.Numbers.{DigitOf, Numeral}
@@ -16,9 +16,6 @@ pub record Read (base before : ℕ) (word : List ℕ) (i n : ℕ) : Type 0 where
   pub room : (n + 1) * base ^ length (drop i word) ≤ 2 ^ 32
 
 module _ (base before : ℕ) (word : List ℕ) where
-  pub read_none : (before + 1) * base ^ length word ≤ 2 ^ 32 → Read base before word 0 before
-  read_none room = record { digits = All-nil (DigitOf base); same = refl; room = room }
-
   module _ (i n : ℕ) (on : i < length word) (h : Read base before word i n) (is : DigitOf base (get_or word i 0)) where
     next : ℕ
     next = n * base + digit_value (get_or word i 0)

@@ -6,20 +6,19 @@ ghost use Rattle.text.specs.Numbers.{DigitOf, Numeral, HexNumeral};
 
 // The value of a digit of the base, a letter in upper case.
 fn digit(base: u32, c: u8) -> Option<u32>
-    requires { base ≤ 16 }
+    requires { (2 ≤ base) × (base ≤ 16) }
     ensures { SomeIff result (DigitOf base c) (digit_value c) }
 {
-    let d = match c {
-        b'0'..=b'9' => u32::from(c - b'0'),
-        b'A'..=b'F' => u32::from(c - b'A' + 10),
-        _ => return None,
-    };
-    (d < base).then_some(d)
+    if c.is_ascii_lowercase() {
+        return None;
+    }
+    char::from(c).to_digit(base)
 }
 
 // The number that the word's digits write after the digits of `before`.
+// A loop of its own, since `from_str_radix` takes a sign and lower case.
 fn digits_after(base: u32, before: u32, word: &[u8]) -> Option<u32>
-    requires base { base ≤ 16 }
+    requires base { (2 ≤ base) × (base ≤ 16) }
     requires room { (before + 1) * base ^ length word.now ≤ 2 ^ 32 }
     ensures { SomeIff result (All (DigitOf base) word.now) (digits_value_after base before word.now) }
 {

@@ -11,4 +11,4 @@ pub returns-in-Some-behind_names-2 : goal.returns-in-Some-behind_names-2
 returns-in-Some-behind_names-2 c = rw (← c.as_slice-tokens.ensures.value) (block_said _ c.in-Some-behind_names-2.ensures c.in_ok-new-2.ensures.meaning _ c.table_of-in-Some-behind_names-2.ensures)
 
 pub returns : goal.returns
-returns c = rw (← c.as_slice-tokens.ensures.value) (block_unnamed _ _ c.in_default.ensures c.in_default-behind_names.ensures c.in_default-behind_names-2.ensures)
+returns c = rw (c.into.ensures, ← c.as_slice-tokens.ensures.value) (block_unnamed _ _ c.in_default.ensures c.in_default-behind_names.ensures c.in_default-behind_names-2.ensures)

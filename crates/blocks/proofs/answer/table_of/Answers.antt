@@ -12,7 +12,7 @@ returns-in_err-take_rows g c =
 pub returns-in-Some : goal.returns-in-Some
 returns-in-Some g c =
     let told = c.in_ok-take_rows.ensures in
-    bad_declined g.K.Readable.format (g.K.LabelKind.book c.args.kind).meaning (map sign_of c.args.tokens.now) c.args.bad (g.K.LabelKind.book c.take_rows.new.kind).meaning told.0 told.1 c.in-Some.line c.in-Some.is
+    rw c.into.ensures (bad_declined g.K.Readable.format (g.K.LabelKind.book c.args.kind).meaning (map sign_of c.args.tokens.now) c.args.bad (g.K.LabelKind.book c.take_rows.new.kind).meaning told.0 told.1 c.in-Some.line c.in-Some.is)
 
 pub returns-in_err-atoms : goal.returns-in_err-atoms
 returns-in_err-atoms g c =
