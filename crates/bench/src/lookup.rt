@@ -12,7 +12,7 @@ use labels::set::GuardSet;
 pub fn atom_of<K: LabelKind>(kind: &K, table: &AtomTable, x: u64) -> Option<usize>
     ensures { Names (K.LabelKind.book kind.now).meaning table.now.atoms table.now.count x result }
 {
-    // By cases: the lookup answers an Option itself, so `then` would need a `flatten`, and tells no more than this.
+    // By cases: the lookup answers an Option itself, so `then` would need a `flatten` after it.
     if kind.label(x) {
         find(table, guards_of(kind, x))
     } else {
