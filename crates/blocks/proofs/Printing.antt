@@ -1,10 +1,15 @@
--- Lists of numbers, one number more at a time.
-use Rattle.std.proofs.Common.{◌≡◌, ℕ, zero, suc, ◌+◌, ◌^◌, ◌<◌, ◌≤◌, Bool, true, false, cond, eqb, List, [], ◌∷◌, ◌++◌, length, take, codes, decimal, All, sym, refl, ap, ◌∙◌, subst, append_assoc, append-nil, add-one, arith, length-append}
-use Rattle.std.proofs.Math.Dec.{eqb-suc-zero}
+-- Lists of numbers with commas, and lines of atoms.
+use Rattle.std.proofs.Common.{◌≡◌, ℕ, zero, suc, ◌+◌, ◌^◌, ◌<◌, ◌≤◌, Bool, true, false, cond, List, [], ◌∷◌, ◌++◌, length, take, codes, decimal, All, sym, refl, ap, ◌∙◌, subst, append_assoc, append-nil, add-one, arith, length-append}
 use Rattle.std.proofs.lemmas.Fmt.{decimal_nonempty}
 use Rattle.std.proofs.lemmas.List.{get_or-take}
 use Rattle.std.proofs.lemmas.List.Elements.{All-nil, All-cons, All-head, All-append}
-use Rattle.std.proofs.lemmas.Bool.{cond-true, cond-false}
+use Rattle.std.proofs.Common.{map, filter, map-id, Option}
+use Rattle.std.specs.List.{range_with_len}
+use Rattle.std.proofs.lemmas.List.FromFn.{filter_of_map_range_with_len_more}
+use Rattle.std.proofs.lemmas.Iterator.{YieldsList, items_from_drains}
+use Rattle.std.proofs.lemmas.Iterator.Consumers.{YieldsList-at}
+use Rattle.std.specs.Iterator.Runs.{Run, YieldsRun}
+use Rattle.itertools.specs.Consumer.{joined}
 use Rattle.labels.specs.Sets.{has}
 use Rattle.atoms.specs.Entries.{blank, atom_at}
 use Rattle.atoms.specs.declared.atom.Atom.{Atom}
@@ -18,18 +23,28 @@ commas_some : (g : ℕ) (gs : List ℕ) → Small (g ∷ gs) → 0 < length (com
 commas_some g [] small = decimal_nonempty g (All-head (λ g. g < 2 ^ 64) g [] small)
 commas_some g (h ∷ gs) small = omega (arith, length-append (decimal g) (44 ∷ commas (h ∷ gs)))
 
-commas_more : (g : ℕ) (gs : List ℕ) (h : ℕ) → commas (g ∷ (gs ++ h ∷ [])) ≡ (commas (g ∷ gs) ++ 44 ∷ []) ++ decimal h
-commas_more g [] h = sym (append_assoc (decimal g) (44 ∷ []) (decimal h))
-commas_more g (k ∷ gs) h = ap (λ l. decimal g ++ 44 ∷ l) (commas_more k gs h) ∙ simp append_assoc
+commas_joined : (gs : List ℕ) → joined decimal (44 ∷ []) gs ≡ commas gs
+commas_joined [] = refl
+commas_joined (g ∷ []) = append-nil (decimal g)
+commas_joined (g ∷ h ∷ gs) = ap (λ l. decimal g ++ 44 ∷ l) (commas_joined (h ∷ gs))
 
-some_eqb : (n : ℕ) → 0 < n → eqb n 0 ≡ false
-some_eqb zero some = absurd (omega arith)
-some_eqb (suc n) some = eqb-suc-zero n
+-- the numbers below n that are in the set s
+members_kept : (n s : ℕ) → filter (has s) (range_with_len 0 n) ≡ members n s
+members_kept zero s = refl
+members_kept (suc n) s =
+    ap (filter (has s)) (sym (map-id (range_with_len 0 (suc n))) ∙ ap (λ k. map (λ x. x) (range_with_len 0 k)) (sym (add-one n)))
+    ∙ filter_of_map_range_with_len_more (has s) (λ x. x) 0 n n (omega arith)
+    ∙ ap (λ l. l ++ cond (has s n) (n ∷ []) []) (ap (filter (has s)) (map-id (range_with_len 0 n)) ∙ members_kept n s)
 
--- a number that is added, with a comma where something went before
-commas_push : (gs : List ℕ) (h : ℕ) → Small gs → commas (gs ++ h ∷ []) ≡ cond (eqb (length (commas gs)) 0) (commas gs) (commas gs ++ 44 ∷ []) ++ decimal h
-commas_push [] h small = refl
-commas_push (g ∷ gs) h small = commas_more g gs h ∙ ap (λ l. l ++ decimal h) (sym (cond-false (eqb (length (commas (g ∷ gs))) 0) (commas (g ∷ gs)) (commas (g ∷ gs) ++ 44 ∷ []) (some_eqb (length (commas (g ∷ gs))) (commas_some g gs small))))
+-- a whole run has all that its iterator gives
+run_items : {S A : Type 0} {steps : S → Option A → S → Type 0} {s : S} {all : List A} (p : Run steps) → p.from ≡ s → p.whole ≡ true → YieldsList steps (λ x. x) s all → p.items ≡ all
+unfolding YieldsRun
+run_items p at whole road =
+    let d = p.gave.0 in
+    sym (map-id p.items) ∙ items_from_drains p.items (d.0, d.1, λ _. d.2 whole) (YieldsList-at at road)
+
+pub run_joined : {S : Type 0} {steps : S → Option ℕ → S → Type 0} {it : S} (n s : ℕ) (p : Run steps) → p.from ≡ it → p.whole ≡ true → YieldsList steps (λ x. x) it (filter (has s) (range_with_len 0 n)) → joined decimal (44 ∷ []) p.items ≡ commas (members n s)
+run_joined n s p at whole road = ap (joined decimal (44 ∷ [])) (run_items p at whole road ∙ members_kept n s) ∙ commas_joined (members n s)
 
 member_small : (n : ℕ) (b : Bool) → n < 2 ^ 64 → Small (cond b (n ∷ []) [])
 member_small n true within = All-cons (λ g. g < 2 ^ 64) n [] within (All-nil (λ g. g < 2 ^ 64))
@@ -38,18 +53,6 @@ member_small n false within = All-nil (λ g. g < 2 ^ 64)
 members_small : (n s : ℕ) → n ≤ 2 ^ 64 → Small (members n s)
 members_small zero s within = All-nil (λ g. g < 2 ^ 64)
 members_small (suc n) s within = All-append (λ g. g < 2 ^ 64) (members n s) (cond (has s n) (n ∷ []) []) (members_small n s (omega arith)) (member_small n (has s n) (omega arith))
-
-module _ (s g : ℕ) (out : List ℕ) (text : out ≡ commas (members g s)) where
-  next : members (g + 1) s ≡ members g s ++ cond (has s g) (g ∷ []) []
-  next = ap (λ n. members n s) (add-one g)
-
-  pub one_passed : has s g ≡ false → out ≡ commas (members (g + 1) s)
-  one_passed off = text ∙ sym (ap commas (next ∙ ap (λ m. members g s ++ m) (cond-false (has s g) (g ∷ []) [] off) ∙ append-nil (members g s)))
-
-  pub one_listed : (out' : List ℕ) → g ≤ 2 ^ 64 → has s g ≡ true → out' ≡ cond (eqb (length out) 0) out (out ++ 44 ∷ []) ++ decimal g → out' ≡ commas (members (g + 1) s)
-  one_listed out' within on put =
-      let more : members (g + 1) s ≡ members g s ++ g ∷ [] = next ∙ ap (λ m. members g s ++ m) (cond-true (has s g) (g ∷ []) [] on) in
-      put ∙ ap (λ t. cond (eqb (length t) 0) t (t ++ 44 ∷ []) ++ decimal g) text ∙ sym (ap commas more ∙ commas_push (members g s) g (members_small g s within))
 
 dashed : (gs : List ℕ) → Small gs → (length (commas gs) ≡ 0 → commas gs ++ 45 ∷ [] ≡ list_text gs) × (0 < length (commas gs) → commas gs ≡ list_text gs)
 dashed [] small = (λ none. refl, λ some. absurd (omega arith))

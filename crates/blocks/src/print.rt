@@ -1,9 +1,10 @@
 // What is printed of a table of atoms.
-ghost use Rattle.std.specs.Prelude.{◌≡◌, [], ◌∷◌, ◌++◌, IfOk, if◌then◌else◌, ◌==◌, length, string_bytes, decimal, OnOk};
+ghost use Rattle.std.specs.Prelude.{◌≡◌, [], ◌∷◌, ◌++◌, IfOk, string_bytes, decimal, OnOk};
 ghost use Rattle.blocks.specs.Printing.{members, list_text, table_text};
 
 use atoms::atom::Atom;
 use atoms::table::AtomTable;
+use itertools::Itertools;
 use labels::set::GuardSet;
 use std::alloc::{AllocError, Global};
 use std::fmt::Write;
@@ -39,25 +40,9 @@ fn push_atom(
 fn print_set(heap: Global, set: GuardSet, count: u32) -> Result<String, AllocError>
     ensures { IfOk result (λ s. string_bytes s ≡ list_text (members count set.0)) }
 {
-    let mut out = String::new(heap);
-    for g in 0..count {
-        if set.contains(g) {
-            push_number(&mut out, g)?;
-        }
-    }
+    let mut out = (0..count).filter(|g| set.contains(*g)).join(heap, ",")?;
     if out.is_empty() {
         out.push('-')?;
     }
     Ok(out)
-}
-
-// Adds a number, with a comma before it where something went before.
-fn push_number(out: &mut String, n: u32) -> Result<(), AllocError>
-    ensures { OnOk result (string_bytes out.new ≡ (if length (string_bytes out.old) == 0 then string_bytes out.old else string_bytes out.old ++ 44 ∷ []) ++ decimal n) }
-{
-    if !out.is_empty() {
-        out.push(',')?;
-    }
-    write!(out, "{n}")?;
-    Ok(())
 }
