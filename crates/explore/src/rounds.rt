@@ -63,7 +63,7 @@ fn labels<E: Entry, S: Stepping<E>, F: Fn(usize) -> E>(
     Ok(())
 }
 
-// Nodes with one child that was found in the last round.
+// Nodes with one child that was found in the last round. Beside `doubles`, which works out a row for each left child.
 fn singles<E: Entry, S: Stepping<E>>(
     steps: &S,
     found: &mut Numbering<'_, '_, E>,
