@@ -40,7 +40,7 @@ impl<E: Entry> Lookup<'_, '_, E> {
         let start = e.hint() % HINTS;
         // Not a chain of `map_while` and `find`: what it finds is not proved to pass its test.
         for i in 0..LOOKS {
-            let k = self.hints.get((start + i) % HINTS)?.checked_sub(1)? as usize;
+            let k = usize::from(self.hints.get((start + i) % HINTS)?.checked_sub(1)?);
             if self.entries.get(k) == Some(e) {
                 return Some(k);
             }

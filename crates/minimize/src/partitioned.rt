@@ -25,7 +25,7 @@ impl<M: TreeAutomaton> Partitioned<'_, M> {
         requires class { class < self.now.count }
         ensures { result ≡ rep_of self.now class }
     {
-        self.reps[class as usize] as usize
+        usize::from(self.reps[usize::from(class)])
     }
 
     // What the test says of the state p, a truth value or a class in one number: answers are only compared.

@@ -43,7 +43,7 @@ impl<M: TreeAutomaton> Partitioned<'_, M> {
     {
         let mut table = [[0; 16]; 32];
         for (i, &q) in self.reps[..self.count].iter().enumerate() {
-            table[i] = self.classes_beside(x, row, q as usize);
+            table[i] = self.classes_beside(x, row, usize::from(q));
         }
         table
     }

@@ -54,7 +54,7 @@ impl<M: TreeAutomaton> Partitioned<'_, M> {
         let r = self.representative(self.classes[p]);
         let table = self.beside_representatives(r, &self.machine.row(r));
         for (i, &y) in self.reps[..self.count].iter().enumerate() {
-            let y = y as usize;
+            let y = usize::from(y);
             if let Some(a) = self.first_difference(p, &row, y, &table[i]) {
                 let test = Test::Left(y, a);
                 return Some(Found { state: p, test });
@@ -71,7 +71,7 @@ impl<M: TreeAutomaton> Partitioned<'_, M> {
         let row = self.machine.row(x);
         let table = self.beside_representatives(x, &row);
         for (y, &class) in self.classes.iter().enumerate() {
-            if let Some(a) = self.first_difference(x, &row, y, &table[class as usize]) {
+            if let Some(a) = self.first_difference(x, &row, y, &table[usize::from(class)]) {
                 let test = Test::Right(x, a);
                 return Some(Found { state: y, test });
             }

@@ -14,7 +14,7 @@ pub struct Class(pub u16);
 
 impl Entry for Class {
     fn hint(&self) -> usize {
-        self.0 as usize
+        usize::from(self.0)
     }
 
     ghost exact = { Prim.search rules };
