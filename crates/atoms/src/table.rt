@@ -15,6 +15,7 @@ pub struct AtomTable {
     ghost long: { length atoms ≡ 16 },
     ghost some: { 0 < count },
     ghost within: { count ≤ 16 },
+    // Each type that counts guards says so itself: with a type for the count, each clause that names it would name a field more.
     ghost few: { guards ≤ 32 },
     ghost rises: { (i j : ℕ) → i < j → j < count → label_at atoms i < label_at atoms j },
     ghost apart: { (i j : ℕ) → i < j → j < count → set_at atoms i ≢ set_at atoms j },

@@ -56,6 +56,7 @@ impl Refusal {
     }
 }
 
+// What is printed in the place of a table, and no `Error`: nothing hands it on as one.
 impl fmt::Display for Refusal {
     ghost output = { λ refusal. Some (refusal_text refusal) };
 

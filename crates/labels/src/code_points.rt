@@ -21,6 +21,7 @@ pub struct CodePoints {
     guards: u32,
     ghost limit: { vec_len ranges ≤ 64 },
     ghost room: { 64 ≤ vec_capacity ranges },
+    // Each type that counts guards says so itself: with a type for the count, each clause that names it would name a field more.
     ghost few: { guards ≤ 32 },
     ghost known: { (k : ℕ) → k < length ranges.items → (given_at ranges.items k).guard < guards },
     ghost ended: { (k : ℕ) → k < length ranges.items → (given_at ranges.items k).range.high ≤ 0x10FFFF },

@@ -12,6 +12,7 @@ use std::convert::AsSlice;
 pub struct GuardTable<S: AsSlice<GuardSet>> {
     pub sets: S,
     pub guards: u32,
+    // Each type that counts guards says so itself: with a type for the count, each clause that names it would name a field more.
     ghost few: { guards ≤ 32 },
     ghost known: { (x g : ℕ) → guards ≤ g → has (set_at (S.items sets) x) g ≢ true },
 }

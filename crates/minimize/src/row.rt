@@ -42,6 +42,7 @@ impl<M: TreeAutomaton> Partitioned<'_, M> {
         ensures { TableOf self.now self.now.count x result }
     {
         let mut table = [[0; 16]; 32];
+        // by index, as in `classes_beside`
         for (i, &q) in self.reps[..self.count].iter().enumerate() {
             table[i] = self.classes_beside(x, row, usize::from(q));
         }

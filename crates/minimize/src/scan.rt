@@ -53,6 +53,7 @@ impl<M: TreeAutomaton> Partitioned<'_, M> {
         let row = self.machine.row(p);
         let r = self.representative(self.classes[p]);
         let table = self.beside_representatives(r, &self.machine.row(r));
+        // not by `zip`: the loop's invariant has no word for how far it has come
         for (i, &y) in self.reps[..self.count].iter().enumerate() {
             let y = usize::from(y);
             if let Some(a) = self.first_difference(p, &row, y, &table[i]) {

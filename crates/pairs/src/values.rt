@@ -15,6 +15,7 @@ pub struct Values {
     list: [Option<PairValue>; 32],
     guards: u32,
     ghost long: { length list ≡ 32 },
+    // Each type that counts guards says so itself: with a type for the count, each clause that names it would name a field more.
     ghost few: { guards ≤ 32 },
     ghost known: { (g : ℕ) → guards ≤ g → is_some (value_at list g) ≢ true },
     ghost small: { Small list },
