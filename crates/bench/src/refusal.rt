@@ -80,3 +80,21 @@ impl fmt::Display for Refusal {
 }
 
 impl Error for Refusal {}
+
+#[cfg(test)]
+mod tests {
+    use super::*;
+    use std::test::Fail;
+
+    #[test]
+    fn refusals_print_themselves(rt: HostRuntime) -> Result<(), Fail> {
+        let heap = rt.alloc();
+        let rule = Refusal::RuleOutOfShape(7).to_string(heap)?;
+        assert_eq!(rt; rule.as_str(), "rule 7 is out of shape");
+        let count = Refusal::NodeCount.to_string(heap)?;
+        assert_eq!(rt; count.as_str(), "no node, or more than 1024");
+        assert_eq!(rt; Refusal::RuleOutOfShape(7).number(), 33);
+        assert_eq!(rt; Refusal::UnknownLabel(0).place(), 0);
+        Ok(())
+    }
+}
