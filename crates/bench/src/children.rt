@@ -1,4 +1,4 @@
-// The children of a node, by their states, which are bytes of a shelf.
+// The children of a node, by their states, which are bytes of a shelf; those of `explore` are any numbers.
 ghost use Rattle.std.specs.Prelude.{◌≡◌, ◌<◌, Decides};
 ghost use Rattle.bench.specs.Combining.{place_at, Inside};
 

@@ -63,7 +63,8 @@ fn labels<E: Entry, S: Stepping<E>, F: Fn(usize) -> E>(
     Ok(())
 }
 
-// Nodes with one child that was found in the last round. Beside `doubles`, which works out a row for each left child.
+// Nodes with one child that was found in the last round. By number, here and below: `found` grows while the loop runs, so that its
+// entries cannot be lent to it. Beside `doubles`, which works out a row for each left child.
 fn singles<E: Entry, S: Stepping<E>>(
     steps: &S,
     found: &mut Numbering<'_, '_, E>,

@@ -36,6 +36,7 @@ impl EventWords {
     }
 }
 
+// Hands the questions on to the table, as tags do: the language has no delegation.
 impl LabelKind for EventWords {
     type Value = String;
 

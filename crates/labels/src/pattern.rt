@@ -35,7 +35,8 @@ impl Pattern {
     }
 }
 
-// Whether the character asks for its bit, and for which: the digits that the care mask and the value get for it.
+// Whether the character asks for its bit, and for which. Digits, not a bool or an enum: the masks get them as they are, so that another
+// form would be turned back into them.
 fn bit(c: char) -> Option<(u32, u32)>
     ensures { Bit c result }
 {

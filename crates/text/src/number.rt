@@ -36,6 +36,7 @@ fn longer(first: u8, rest: &[u8]) -> Option<u32>
     requires { (49 ≤ first) × (first ≤ 57) }
     ensures { SomeIff result (Numeral (first ∷ rest.now)) (digits_value 10 (first ∷ rest.now)) }
 {
+    // by cases: `then` would need a `flatten` after it
     if rest.len() <= 4 {
         digits_after(10, u32::from(first - b'0'), rest)
     } else {
