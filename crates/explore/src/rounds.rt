@@ -23,6 +23,7 @@ pub(crate) fn all_rounds<E: Entry, S: Stepping<E>>(
     found: &mut Numbering<'_, '_, E>,
     firsts: &mut [u16],
 ) -> Result<(), Full>
+    requires sound { S.Stepping.sound steps.now }
     requires room { Room found.old.entries.now firsts.old }
     requires empty { found.old.len ≡ 0 }
     ensures { Explores (S.Stepping.steps steps.now) found.old result found.new firsts.new }
@@ -51,6 +52,7 @@ fn labels<E: Entry, S: Stepping<E>, F: Fn(usize) -> E>(
     children: Children,
     thing: F,
 ) -> Result<(), Full>
+    requires sound { S.Stepping.sound steps.now }
     requires may { (a : ℕ) → a < (S.Stepping.steps steps.now).atoms → F.pre thing a }
     requires leads { LeadsTo (S.Stepping.steps steps.now) found.old children (F.post thing) }
     requires turn { Turn round children }
@@ -71,6 +73,7 @@ fn singles<E: Entry, S: Stepping<E>>(
     firsts: &mut [u16],
     round: Round,
 ) -> Result<(), Full>
+    requires sound { S.Stepping.sound steps.now }
     requires stands { Stands (S.Stepping.steps steps.now) found.old firsts.old round 1 round.old 0 0 }
     ensures { GoesOn (S.Stepping.steps steps.now) found.old round result found.new firsts.new 2 0 0 0 }
 {
@@ -90,6 +93,7 @@ fn doubles<E: Entry, S: Stepping<E>>(
     firsts: &mut [u16],
     round: Round,
 ) -> Result<(), Full>
+    requires sound { S.Stepping.sound steps.now }
     requires stands { Stands (S.Stepping.steps steps.now) found.old firsts.old round 2 0 0 0 }
     ensures { GoesOn (S.Stepping.steps steps.now) found.old round result found.new firsts.new 3 0 0 0 }
 {
@@ -107,6 +111,7 @@ fn doubles_from<E: Entry, S: Stepping<E>>(
     round: Round,
     p: usize,
 ) -> Result<(), Full>
+    requires sound { S.Stepping.sound steps.now }
     requires turn { p < round.start }
     requires stands { Stands (S.Stepping.steps steps.now) found.old firsts.old round 2 p 0 0 }
     ensures { GoesOn (S.Stepping.steps steps.now) found.old round result found.new firsts.new 2 (p + 1) 0 0 }

@@ -15,6 +15,7 @@ pub fn explore<E: Entry, S: Stepping<E>>(
     hints: &mut [u16],
     firsts: &mut [u16],
 ) -> Result<usize, Full>
+    requires sound { S.Stepping.sound steps.now }
     requires room { Room entries.old firsts.old }
     ensures { Lists (S.Stepping.steps steps.now) E.eq entries.old result entries.new firsts.new }
 {

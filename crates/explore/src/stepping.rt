@@ -16,30 +16,39 @@ pub trait Stepping<E: Entry> {
     // the row was worked out for the thing
     ghost prepared: { Self → E → Self.Row → Type 0 };
 
+    // what has to hold for the answers to be those of the steps
+    ghost sound: { Self → Type 0 };
+
     fn accepts(&self, e: &E) -> bool
+        requires sound { sound self.now }
         requires fine { (steps self.now).fine e.now ≡ true }
         ensures { result ≡ (steps self.now).accepts e.now };
 
     // How many labels there are.
     fn atoms(&self) -> usize
+        requires sound { sound self.now }
         ensures { result ≡ (steps self.now).atoms };
 
     fn none(&self, a: usize) -> E
+        requires sound { sound self.now }
         requires label { a < (steps self.now).atoms }
         ensures { result ≡ (steps self.now).none a };
 
     fn single(&self, p: &E, a: usize) -> E
+        requires sound { sound self.now }
         requires fine { (steps self.now).fine p.now ≡ true }
         requires label { a < (steps self.now).atoms }
         ensures { result ≡ (steps self.now).single p.now a };
 
     // The row of the left child.
     fn row(&self, p: &E) -> Self::Row
+        requires sound { sound self.now }
         requires fine { (steps self.now).fine p.now ≡ true }
         ensures { prepared self.now p.now result };
 
     // The thing of a node with two children, with the row of the left one.
     fn double(&self, p: &E, row: &Self::Row, q: &E, a: usize) -> E
+        requires sound { sound self.now }
         requires left { (steps self.now).fine p.now ≡ true }
         requires right { (steps self.now).fine q.now ≡ true }
         requires row { prepared self.now p.now row.now }
@@ -47,5 +56,5 @@ pub trait Stepping<E: Entry> {
         ensures { result ≡ (steps self.now).double p.now q.now a };
 
     // the steps stay among the things that may be asked about
-    ghost fit: { (s : Self) → Fit (steps s) };
+    ghost fit: { (s : Self) → sound s → Fit (steps s) };
 }

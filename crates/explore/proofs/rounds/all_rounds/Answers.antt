@@ -16,7 +16,7 @@ singles-requires g c =
     let s = c.loop-round.found in
     let from = c.loop-round.round.start in
     let stands = c.loop-round.invariant.0 in
-    record { stands = record { room = stands.room; at = subst (λ n. InRound S (entry_at S s.entries.now) (first_at c.loop-round.firsts) s.len from n 1 from 0 0) (sym c.len-in-loop-round.ensures) (next_round stands.at) } }
+    record { sound = c.requires.sound; stands = record { room = stands.room; at = subst (λ n. InRound S (entry_at S s.entries.now) (first_at c.loop-round.firsts) s.len from n 1 from 0 0) (sym c.len-in-loop-round.ensures) (next_round stands.at) } }
 
 pub returns : goal.returns
 returns g c =
