@@ -17,7 +17,7 @@ impl<E: Entry> Lookup<'_, '_, E> {
     // The place of the entry; the number of entries where it is not there, since steps of an automaton are total.
     pub fn place(&self, e: &E) -> usize
         requires once { (i j : ℕ) → i < j → j < length self.now.entries.now → Alike self.now.entries.now i j → ⊥ }
-        ensures { result ≡ place_of E.eq self.now.entries.now e.now }
+        ensures { result ≡ place_of E.Entry.equal self.now.entries.now e.now }
     {
         self.find(e).unwrap_or(self.entries.len())
     }
@@ -41,7 +41,7 @@ impl<E: Entry> Lookup<'_, '_, E> {
         // Not a chain of `map_while` and `find`: what it finds is not proved to pass its test.
         for i in 0..LOOKS {
             let k = usize::from(self.hints.get((start + i) % HINTS)?.checked_sub(1)?);
-            if self.entries.get(k) == Some(e) {
+            if self.entries.get(k).is_some_and(|x| x.same(e)) {
                 return Some(k);
             }
         }
@@ -51,7 +51,7 @@ impl<E: Entry> Lookup<'_, '_, E> {
     fn search(&self, e: &E) -> Option<usize>
         ensures { Finds self.now.entries.now (length self.now.entries.now) e.now result }
     {
-        self.entries.iter().position(|x| x == e)
+        self.entries.iter().position(|x| x.same(e))
     }
 }
 

@@ -17,7 +17,7 @@ pub fn explore<E: Entry, S: Stepping<E>>(
 ) -> Result<usize, Full>
     requires sound { S.Stepping.sound steps.now }
     requires room { Room entries.old firsts.old }
-    ensures { Lists (S.Stepping.steps steps.now) E.eq entries.old result entries.new firsts.new }
+    ensures { Lists (S.Stepping.steps steps.now) E.Entry.equal entries.old result entries.new firsts.new }
 {
     let mut found = Numbering::new(entries, hints);
     all_rounds(steps, &mut found, firsts)?;

@@ -5,4 +5,4 @@ use Rattle.explore.proofs.search.explore.Goals as goal
 pub returns : goal.returns
 returns g c =
     let lent = c.in_ok-all_rounds.ensures.1.lent in
-    listed_at (g.S.Stepping.steps c.args.steps.now) g.E.PartialEq.eq g.met.E.Entry.exact c.all_rounds.new.found _ c.all_rounds.new.firsts c.len.result (search rules) c.len.ensures c.in_ok-all_rounds.ensures.0
+    listed_at (g.S.Stepping.steps c.args.steps.now) g.E.Entry.equal g.met.E.Entry.exact c.all_rounds.new.found _ c.all_rounds.new.firsts c.len.result (search rules) c.len.ensures c.in_ok-all_rounds.ensures.0
