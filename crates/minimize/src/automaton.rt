@@ -17,36 +17,46 @@ pub trait TreeAutomaton {
     // the row was worked out for the state
     ghost prepared: { Self → ℕ → Self.Row → Type 0 };
 
+    // what has to hold for its answers to be those of its meaning
+    ghost sound: { Self → Type 0 };
+
     // How many states there are.
     fn size(&self) -> usize
+        requires sound { sound self.now }
         ensures { result ≡ (meaning self.now).size };
 
     // How many atoms there are.
     fn atoms(&self) -> usize
+        requires sound { sound self.now }
         ensures { result ≡ letters self.now };
 
     fn accepts(&self, p: usize) -> bool
+        requires sound { sound self.now }
         requires state { p < (meaning self.now).size }
         ensures { result ≡ (meaning self.now).accepts p };
 
     // The state of a childless node.
     fn none(&self, a: usize) -> usize
+        requires sound { sound self.now }
         requires atom { a < letters self.now }
         ensures { result ≡ (meaning self.now).none a };
 
     // The state of a node with one child.
     fn single(&self, p: usize, a: usize) -> usize
+        requires sound { sound self.now }
         requires state { p < (meaning self.now).size }
         requires atom { a < letters self.now }
         ensures { result ≡ (meaning self.now).single p a };
 
     // The row of the left child's state.
     fn row(&self, p: usize) -> Self::Row
+        requires sound { sound self.now }
         requires state { p < (meaning self.now).size }
         ensures { prepared self.now p result };
 
     // The state of a node with two children, with the row of the left one.
     fn double(&self, p: usize, row: &Self::Row, q: usize, a: usize) -> usize
+        requires sound { sound self.now }
         requires left { p < (meaning self.now).size }
         requires right { q < (meaning self.now).size }
         requires atom { a < letters self.now }
@@ -54,5 +64,5 @@ pub trait TreeAutomaton {
         ensures { result ≡ (meaning self.now).double p q a };
 
     // It is complete and small enough.
-    ghost fit: { (m : Self) → Fit (letters m) (meaning m) };
+    ghost fit: { (m : Self) → sound m → Fit (letters m) (meaning m) };
 }

@@ -30,6 +30,7 @@ impl<M: TreeAutomaton> Partitioned<'_, M> {
 
     // What the test says of the state p, a truth value or a class in one number: answers are only compared.
     pub(crate) fn answer(&self, test: Test, p: usize) -> u16
+        requires sound { M.TreeAutomaton.sound self.now.machine.now }
         requires state { p < (automaton self.now).size }
         requires valid { Valid (atom_count self.now) (automaton self.now) test }
         ensures { result ≡ says self.now test p }
@@ -45,6 +46,7 @@ impl<M: TreeAutomaton> Partitioned<'_, M> {
 
     // Whether p and its representative answer the test alike.
     pub(crate) fn alike(&self, test: Test, p: usize) -> bool
+        requires sound { M.TreeAutomaton.sound self.now.machine.now }
         requires state { p < (automaton self.now).size }
         requires valid { Valid (atom_count self.now) (automaton self.now) test }
         ensures { Decides result (AnswersAlike self.now test p) }

@@ -19,6 +19,7 @@ pub fn minimize<M: TreeAutomaton>(
     next: &mut [u16],
     reps: &mut [u16],
 ) -> Result<usize, TooManyClasses>
+    requires sound { M.TreeAutomaton.sound m.now }
     requires classes_long { length classes.old ≡ (M.TreeAutomaton.meaning m.now).size }
     requires next_long { length next.old ≡ (M.TreeAutomaton.meaning m.now).size }
     requires reps_long { length reps.old ≡ 32 }

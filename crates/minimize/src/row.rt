@@ -11,6 +11,7 @@ use crate::partitioned::Partitioned;
 impl<M: TreeAutomaton> Partitioned<'_, M> {
     // The class that x on the left, q on the right and the atom a lead to.
     pub(crate) fn class_beside(&self, x: usize, row: &M::Row, q: usize, a: usize) -> u16
+        requires sound { M.TreeAutomaton.sound self.now.machine.now }
         requires left { x < (automaton self.now).size }
         requires row { M.prepared self.now.machine.now x row.now }
         requires right { q < (automaton self.now).size }
@@ -22,6 +23,7 @@ impl<M: TreeAutomaton> Partitioned<'_, M> {
 
     // The classes that x on the left and q on the right lead to, by atom.
     fn classes_beside(&self, x: usize, row: &M::Row, q: usize) -> [u16; 16]
+        requires sound { M.TreeAutomaton.sound self.now.machine.now }
         requires left { x < (automaton self.now).size }
         requires row { M.prepared self.now.machine.now x row.now }
         requires right { q < (automaton self.now).size }
@@ -37,6 +39,7 @@ impl<M: TreeAutomaton> Partitioned<'_, M> {
 
     // For each representative on the right of x, the classes that they lead to.
     pub(crate) fn beside_representatives(&self, x: usize, row: &M::Row) -> [[u16; 16]; 32]
+        requires sound { M.TreeAutomaton.sound self.now.machine.now }
         requires left { x < (automaton self.now).size }
         requires row { M.prepared self.now.machine.now x row.now }
         ensures { TableOf self.now self.now.count x result }
@@ -57,6 +60,7 @@ impl<M: TreeAutomaton> Partitioned<'_, M> {
         q: usize,
         wanted: &[u16; 16],
     ) -> Option<usize>
+        requires sound { M.TreeAutomaton.sound self.now.machine.now }
         requires left { x < (automaton self.now).size }
         requires row { M.prepared self.now.machine.now x row.now }
         requires right { q < (automaton self.now).size }

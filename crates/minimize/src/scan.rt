@@ -33,7 +33,8 @@ fn find_round<F: Fn(usize) -> Option<Found>>(size: usize, start: usize, look: F)
 impl<M: TreeAutomaton> Partitioned<'_, M> {
     // Looks at p as the one child.
     fn single_of(&self, p: usize) -> Option<Found>
-        requires { p < (automaton self.now).size }
+        requires sound { M.TreeAutomaton.sound self.now.machine.now }
+        requires state { p < (automaton self.now).size }
         ensures { Looked self.now (SingleAlike self.now p) result }
     {
         for a in 0..self.machine.atoms() {
@@ -47,7 +48,8 @@ impl<M: TreeAutomaton> Partitioned<'_, M> {
 
     // Looks at p on the left of representatives. Beside `right_of`, since the items differ: here representatives, there classes.
     fn left_of(&self, p: usize) -> Option<Found>
-        requires { p < (automaton self.now).size }
+        requires sound { M.TreeAutomaton.sound self.now.machine.now }
+        requires state { p < (automaton self.now).size }
         ensures { Looked self.now (LeftAlike self.now p) result }
     {
         let row = self.machine.row(p);
@@ -66,7 +68,8 @@ impl<M: TreeAutomaton> Partitioned<'_, M> {
 
     // Looks at all states on the right of x.
     fn right_of(&self, x: usize) -> Option<Found>
-        requires { x < (automaton self.now).size }
+        requires sound { M.TreeAutomaton.sound self.now.machine.now }
+        requires state { x < (automaton self.now).size }
         ensures { Looked self.now (RightAlike self.now x) result }
     {
         let row = self.machine.row(x);
@@ -82,7 +85,8 @@ impl<M: TreeAutomaton> Partitioned<'_, M> {
 
     // Looks at p: whether it accepts, as the one child, and on the left of representatives.
     fn near_of(&self, p: usize) -> Option<Found>
-        requires { p < (automaton self.now).size }
+        requires sound { M.TreeAutomaton.sound self.now.machine.now }
+        requires state { p < (automaton self.now).size }
         ensures { Looked self.now (Near self.now p) result }
     {
         let test = Test::Accepts;
@@ -100,13 +104,15 @@ impl<M: TreeAutomaton> Partitioned<'_, M> {
 impl<M: TreeAutomaton> Partitioned<'_, M> {
     // Looks at every state near the representatives, from `start` on and round to it again.
     fn near(&self, start: usize) -> Option<Found>
+        requires sound { M.TreeAutomaton.sound self.now.machine.now }
         ensures { Looked self.now (Everywhere self.now (Near self.now)) result }
     {
         find_round(
             self.machine.size(),
             start,
             |p|
-                requires { p < (automaton self.now).size }
+                requires sound { M.TreeAutomaton.sound self.now.machine.now }
+                requires state { p < (automaton self.now).size }
                 ensures { Looked self.entry.now (Near self.entry.now p) result }
             { self.near_of(p) },
         )
@@ -114,13 +120,15 @@ impl<M: TreeAutomaton> Partitioned<'_, M> {
 
     // Looks at all states on the right of every state, from `start` on and round to it again.
     fn far(&self, start: usize) -> Option<Found>
+        requires sound { M.TreeAutomaton.sound self.now.machine.now }
         ensures { Looked self.now (Everywhere self.now (RightAlike self.now)) result }
     {
         find_round(
             self.machine.size(),
             start,
             |x|
-                requires { x < (automaton self.now).size }
+                requires sound { M.TreeAutomaton.sound self.now.machine.now }
+                requires state { x < (automaton self.now).size }
                 ensures { Looked self.entry.now (RightAlike self.entry.now x) result }
             { self.right_of(x) },
         )
@@ -129,6 +137,7 @@ impl<M: TreeAutomaton> Partitioned<'_, M> {
     // Looks for a split, and far from the representatives only where there is none near them. Where the looking starts does
     // not matter to whether there is one. By `if let`, as above.
     pub(crate) fn find_split(&self, state: usize, row: usize) -> Option<Found>
+        requires sound { M.TreeAutomaton.sound self.now.machine.now }
         ensures { Looked self.now (AllStable self.now) result }
     {
         if let Some(found) = self.near(state) {

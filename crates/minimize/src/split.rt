@@ -11,6 +11,7 @@ use crate::test::{Found, Test};
 impl<M: TreeAutomaton> Partitioned<'_, M> {
     // The class of p when the class of r is parted, where r answers the test with `kept`.
     fn moved(&self, test: Test, r: usize, kept: u16, p: usize) -> u16
+        requires sound { M.TreeAutomaton.sound self.now.machine.now }
         requires valid { Valid (atom_count self.now) (automaton self.now) test }
         requires states { (r < (automaton self.now).size) × (p < (automaton self.now).size) }
         requires known { kept ≡ says self.now test r }
@@ -25,6 +26,7 @@ impl<M: TreeAutomaton> Partitioned<'_, M> {
 
     // Writes the classes with the class of the found state parted by the found test.
     pub(crate) fn part(&self, found: Found, next: &mut [u16])
+        requires sound { M.TreeAutomaton.sound self.now.machine.now }
         requires splits { SplitBy self.now found }
         requires long { length next.old ≡ (automaton self.now).size }
         ensures long { length next.new ≡ length next.old }
