@@ -1,5 +1,5 @@
 // Classes of states, and the steps between them.
-ghost use Rattle.std.specs.Prelude.{◌≡◌};
+ghost use Rattle.std.specs.Prelude.{◌≡◌, ◌==◌};
 ghost use Rattle.std.proofs.Common.{rules};
 ghost use Rattle.std.proofs.lemmas.Grind.{common_steps};
 ghost use Rattle.normal.specs.Classes.{class_steps, rep_of};
@@ -13,6 +13,12 @@ use minimize::partitioned::Partitioned;
 pub struct Class(pub u16);
 
 impl Entry for Class {
+    ghost equal = { λ x y. (x.0 == y.0) };
+
+    fn same(&self, other: &Class) -> bool {
+        self == other
+    }
+
     fn hint(&self) -> usize {
         usize::from(self.0)
     }
@@ -34,6 +40,8 @@ impl<M: TreeAutomaton> Stepping<Class> for Partitioned<'_, M> {
     ghost steps = { λ c. class_steps (M.TreeAutomaton.letters c.machine.now) (M.TreeAutomaton.meaning c.machine.now) c.classes.now c.reps.now c.count };
 
     ghost prepared = { λ c p row. (row.state ≡ rep_of c.reps.now p) × M.TreeAutomaton.prepared c.machine.now row.state row.row };
+
+    ghost sound = { λ c. M.TreeAutomaton.sound c.machine.now };
 
     fn accepts(&self, e: &Class) -> bool {
         self.machine.accepts(self.representative(e.0))
@@ -62,5 +70,5 @@ impl<M: TreeAutomaton> Stepping<Class> for Partitioned<'_, M> {
         Class(self.classes[self.machine.double(row.state, &row.row, right, a)])
     }
 
-    ghost fit = { λ c. let fit = M.fit c.machine.now in let parts = c.partition in Prim.search (rules, common_steps) };
+    ghost fit = { λ c sound. let fit = M.fit c.machine.now sound in let parts = c.partition in Prim.search (rules, common_steps) };
 }

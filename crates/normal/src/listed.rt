@@ -13,16 +13,16 @@ use minimize::automaton::TreeAutomaton;
 
 // The steps, and the things that they lead to.
 #[derive(Drop)]
-pub struct Listed<'s, 'e, 'h, E: Entry, S: Stepping<E>> {
+pub struct Listed<'s, 'e, 'h, E, S> {
     pub steps: &'s S,
     pub entries: &'e [E],
     pub hints: &'h [u16],
-    ghost whole: { Whole (S.Stepping.steps steps.now) E.PartialEq.eq entries.now },
 }
 
 impl<E: Entry, S: Stepping<E>> Listed<'_, '_, '_, E, S> {
     // The thing at place p.
     fn thing(&self, p: usize) -> E
+        requires whole { Whole (S.Stepping.steps self.now.steps.now) E.Entry.equal self.now.entries.now }
         requires place { p < length self.now.entries.now }
         ensures is { result ≡ entry_at (S.Stepping.steps self.now.steps.now) self.now.entries.now p }
         ensures fine { (S.Stepping.steps self.now.steps.now).fine result ≡ true }
@@ -32,7 +32,8 @@ impl<E: Entry, S: Stepping<E>> Listed<'_, '_, '_, E, S> {
 
     // The place of the thing.
     fn place(&self, e: &E) -> usize
-        ensures { result ≡ place_of E.PartialEq.eq self.now.entries.now e.now }
+        requires whole { Whole (S.Stepping.steps self.now.steps.now) E.Entry.equal self.now.entries.now }
+        ensures { result ≡ place_of E.Entry.equal self.now.entries.now e.now }
     {
         let things = Lookup {
             entries: self.entries,
@@ -45,11 +46,13 @@ impl<E: Entry, S: Stepping<E>> Listed<'_, '_, '_, E, S> {
 impl<E: Entry, S: Stepping<E>> TreeAutomaton for Listed<'_, '_, '_, E, S> {
     type Row = S::Row;
 
-    ghost meaning = { λ m. numbers_of (S.Stepping.steps m.steps.now) E.PartialEq.eq m.entries.now };
+    ghost meaning = { λ m. numbers_of (S.Stepping.steps m.steps.now) E.Entry.equal m.entries.now };
 
     ghost letters = { λ m. (S.Stepping.steps m.steps.now).atoms };
 
     ghost prepared = { λ m p row. S.Stepping.prepared m.steps.now (entry_at (S.Stepping.steps m.steps.now) m.entries.now p) row };
+
+    ghost sound = { λ m. S.Stepping.sound m.steps.now × Whole (S.Stepping.steps m.steps.now) E.Entry.equal m.entries.now };
 
     fn size(&self) -> usize {
         self.entries.len()
@@ -79,5 +82,5 @@ impl<E: Entry, S: Stepping<E>> TreeAutomaton for Listed<'_, '_, '_, E, S> {
         self.place(&self.steps.double(&self.thing(p), row, &self.thing(q), a))
     }
 
-    ghost fit = { λ m. let fit = S.fit m.steps.now in let whole = m.whole in Prim.search rules };
+    ghost fit = { λ m sound. let fit = S.fit m.steps.now sound.0 in let whole = sound.1 in Prim.search rules };
 }

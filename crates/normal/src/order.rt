@@ -27,6 +27,7 @@ pub fn order_classes<M: TreeAutomaton>(
     order: &mut [Class],
     firsts: &mut [u16],
 ) -> Result<Ordered, TooManyClasses>
+    requires sound { M.TreeAutomaton.sound m.now }
     requires classes_long { length classes.old ≡ (M.TreeAutomaton.meaning m.now).size }
     requires next_long { length next.old ≡ (M.TreeAutomaton.meaning m.now).size }
     requires reps_long { length reps.old ≡ 32 }
