@@ -1,5 +1,5 @@
 -- Small automata.
-use Rattle.std.specs.Prelude.{ℕ, ◌+◌, ◌-◌, min, Bool, false, List, [], ◌==◌, slice_index, slice_index_or}
+use Rattle.std.specs.Prelude.{ℕ, ◌+◌, ◌-◌, ◌<◌, ◌≤◌, min, Bool, false, List, [], ◌==◌, length, slice_index, slice_index_or}
 use Rattle.trees.specs.Automata.{Automaton}
 
 -- steps by tables for three states and two atoms; entries past the last state stand for it
@@ -21,3 +21,19 @@ chain size = record {
   double = λ p q a. 0;
   accepts = λ p. (p == size - 1);
 }
+
+-- each state leads to its entry, and state 0 accepts
+abbrev pub arrows : List ℕ → Automaton
+arrows next = record {
+  size = length next;
+  none = λ a. 0;
+  single = λ p a. slice_index next p;
+  double = λ p q a. 0;
+  accepts = λ p. (p == 0);
+}
+
+-- there are 1 to 1,024 states, and each entry is one of them
+pub record Sound (next : List ℕ) : Type 0 where
+  pub some : 1 ≤ length next
+  pub few : length next ≤ 1024
+  pub below : (k : ℕ) → k < length next → slice_index next k < length next

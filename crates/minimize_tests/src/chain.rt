@@ -23,6 +23,8 @@ impl TreeAutomaton for Chain {
 
     ghost prepared = { λ s p row. Unit {0} };
 
+    ghost sound = { λ _. Unit {0} };
+
     fn size(&self) -> usize {
         self.size
     }
@@ -49,5 +51,5 @@ impl TreeAutomaton for Chain {
         0
     }
 
-    ghost fit = { λ s. Prim.search (rules, common_steps) };
+    ghost fit = { λ s _. Prim.search (rules, common_steps) };
 }

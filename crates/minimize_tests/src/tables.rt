@@ -31,6 +31,8 @@ impl<'a> TreeAutomaton for Tables<'a> {
 
     ghost prepared = { λ s p row. row.now ≡ slice_index_or s.double.now p [] };
 
+    ghost sound = { λ _. Unit {0} };
+
     fn size(&self) -> usize {
         self.size
     }
@@ -59,5 +61,5 @@ impl<'a> TreeAutomaton for Tables<'a> {
         row[q][a].min(self.size - 1)
     }
 
-    ghost fit = { λ s. Prim.search (rules, common_steps) };
+    ghost fit = { λ s _. Prim.search (rules, common_steps) };
 }

@@ -2,6 +2,7 @@
 ghost use Rattle.std.specs.Prelude.{◌≡◌};
 ghost use Rattle.minimize.specs.Minimized.{Minimized};
 
+use crate::arrows::{Arrows, classes_of};
 use crate::chain::Chain;
 use crate::tables::Tables;
 use minimize::automaton::TreeAutomaton;
@@ -13,7 +14,8 @@ use std::alloc::AllocError;
 fn minimized<M: TreeAutomaton, const N: usize>(
     m: &M,
 ) -> (Result<usize, TooManyClasses>, [u16; N], [u16; 32])
-    requires { N ≡ (M.meaning m.now).size }
+    requires sound { M.sound m.now }
+    requires states { N ≡ (M.meaning m.now).size }
     ensures { Minimized (M.letters m.now) (M.meaning m.now) result.0 result.1 result.2 }
 {
     let (mut classes, mut next, mut reps) = ([7; N], [7; N], [7; 32]);
@@ -92,6 +94,17 @@ fn there_are_32_classes_at_most(rt: HostRuntime) {
     assert_eq!(rt; full, Ok(32));
     let (more, _, _) = minimized::<_, 33>(&Chain { size: 33 });
     assert_eq!(rt; more, Err(TooManyClasses));
+}
+
+// State 2 leads to itself, and 1 to it.
+#[test]
+fn a_lent_list_that_is_known_to_be_sound(rt: HostRuntime) {
+    let m = Arrows { next: &[1, 2, 2] };
+    let (mut classes, mut next, mut reps) = ([7; 3], [7; 3], [7; 32]);
+    let count = classes_of(&m, &mut classes, &mut next, &mut reps);
+    assert_eq!(rt; count, Ok(2));
+    assert_eq!(rt; classes, [0, 1, 1]);
+    assert_eq!(rt; (reps[0], reps[1]), (0, 1));
 }
 
 #[test]
