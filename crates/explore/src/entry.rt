@@ -4,6 +4,7 @@ ghost use Rattle.std.specs.Prelude.{◌≡◌, Bool, Decides};
 pub trait Entry: Copy {
     ghost equal: { Self → Self → Bool };
 
+    // Not by `==`, which may look at less than the whole value.
     fn same(&self, other: &Self) -> bool
         ensures { Decides result (self.now ≡ other.now) };
 

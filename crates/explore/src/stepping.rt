@@ -16,7 +16,7 @@ pub trait Stepping<E: Entry> {
     // the row was worked out for the thing
     ghost prepared: { Self → E → Self.Row → Type 0 };
 
-    // what has to hold for the answers to be those of the steps
+    // what has to hold for the answers to be those of the steps: whoever passes steps knows it of these, since a type may have others
     ghost sound: { Self → Type 0 };
 
     fn accepts(&self, e: &E) -> bool

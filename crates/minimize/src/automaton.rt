@@ -17,7 +17,8 @@ pub trait TreeAutomaton {
     // the row was worked out for the state
     ghost prepared: { Self → ℕ → Self.Row → Type 0 };
 
-    // what has to hold for its answers to be those of its meaning
+    // what has to hold for its answers to be those of its meaning: whoever passes an automaton knows it of this one, since a type may
+    // have others
     ghost sound: { Self → Type 0 };
 
     // How many states there are.

@@ -23,7 +23,7 @@ impl TreeAutomaton for Chain {
 
     ghost prepared = { λ s p row. Unit {0} };
 
-    ghost sound = { λ _. Unit {0} };
+    ghost sound = { λ s. Unit {0} };
 
     fn size(&self) -> usize {
         self.size

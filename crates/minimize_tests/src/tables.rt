@@ -31,7 +31,7 @@ impl<'a> TreeAutomaton for Tables<'a> {
 
     ghost prepared = { λ s p row. row.now ≡ slice_index_or s.double.now p [] };
 
-    ghost sound = { λ _. Unit {0} };
+    ghost sound = { λ s. Unit {0} };
 
     fn size(&self) -> usize {
         self.size
