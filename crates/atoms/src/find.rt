@@ -11,6 +11,7 @@ use labels::kind::LabelKind;
 pub fn atoms<K: LabelKind>(kind: &K, table: &mut AtomTable) -> Result<(usize, u32), TooManyAtoms>
     ensures { Reads (K.LabelKind.book kind.now).meaning table.old result table.new }
 {
+    kind.lawful();
     let found = all_atoms(kind)?;
     *table = AtomTable::of_atoms(&found, kind.count());
     Ok((table.count(), table.guards()))

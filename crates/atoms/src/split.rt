@@ -16,6 +16,7 @@ pub type Draft = ArrayVec<Atom, 16>;
 pub fn all_atoms<K: LabelKind>(kind: &K) -> Result<Draft, TooManyAtoms>
     ensures { Finds (K.LabelKind.book kind.now).meaning result }
 {
+    kind.lawful();
     let mut atoms = Draft::new();
     keep(kind, GuardSet::none(), 0, &mut atoms)?;
     for g in 0..kind.count() {

@@ -24,6 +24,7 @@ pub fn atom_of<K: LabelKind>(kind: &K, table: &AtomTable, x: u64) -> Option<usiz
 fn guards_of<K: LabelKind>(kind: &K, x: u64) -> GuardSet
     ensures { (g : ℕ) → has result.0 g ≡ (K.LabelKind.book kind.now).meaning.holds g x }
 {
+    kind.lawful();
     GuardSet::from_fn(|g| kind.holds(g, x))
 }
 

@@ -2,7 +2,6 @@
 ghost use Rattle.std.specs.Prelude.{◌≡◌, ℕ, ◌+◌, ◌<◌, ◌≤◌, length, IfOk, vec_len, vec_capacity, nat_le};
 ghost use Rattle.labels.specs.Edges.{Tried};
 ghost use Rattle.labels.specs.Meaning.{Fresh};
-ghost use Rattle.labels.specs.Laws.{code_lawful, code_narrow};
 ghost use Rattle.labels.specs.Ranges.{code_label, code_meaning, covered, given_at, in_range, range_formed};
 ghost use Rattle.labels.specs.Sets.{has};
 
@@ -57,6 +56,9 @@ impl LabelKind for CodePoints {
 
     ghost book = { λ k. record { meaning = code_meaning k.ranges.items k.guards; formed = range_formed; labels = in_range; full = λ gs _. nat_le 64 (vec_len k.ranges + length gs) } };
 
+    #[tactic(auto, using(crate::specs::Laws::code_lawful))]
+    fn lawful(&self) {}
+
     fn count(&self) -> u32 {
         self.guards
     }
@@ -106,14 +108,10 @@ impl LabelKind for CodePoints {
         self.guards = self.guards.max(guard + 1);
         Ok(())
     }
-
-    ghost lawful = { λ k. code_lawful k.ranges.items k.guards k.few k.known };
 }
 
 impl NarrowKind for CodePoints {
     fn largest(&self) -> u32 {
         LAST
     }
-
-    ghost narrow = { λ k. code_narrow };
 }

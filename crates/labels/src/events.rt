@@ -1,10 +1,8 @@
 // Event words: labels 0 to 65535; a guard is given by patterns of their bits.
 ghost use Rattle.std.specs.Prelude.{◌≡◌, ◌+◌, ◌<◌, ◌≤◌, length, IfOk, string_bytes, nat_le, nat_lt};
-ghost use Rattle.std.proofs.Common.{rules};
 ghost use Rattle.labels.specs.Masks.{admits};
 ghost use Rattle.labels.specs.Meaning.{Fresh};
 ghost use Rattle.labels.specs.Patterns.{pattern_formed, matches};
-ghost use Rattle.labels.specs.Laws.{table_lawful, table_narrow};
 ghost use Rattle.labels.specs.Tables.{table_meaning, Marked};
 
 use crate::kind::{AddFault, LabelKind, NarrowKind};
@@ -42,6 +40,9 @@ impl LabelKind for EventWords {
 
     ghost book = { λ k. record { meaning = table_meaning k.table.sets.items k.table.guards; formed = λ v. pattern_formed (string_bytes v); labels = λ v. matches (string_bytes v); full = λ gs _. nat_le 64 (k.patterns + length gs) } };
 
+    #[tactic(auto, using(crate::specs::Laws::table_lawful))]
+    fn lawful(&self) {}
+
     fn count(&self) -> u32 {
         self.table.guards
     }
@@ -72,16 +73,12 @@ impl LabelKind for EventWords {
         self.patterns += 1;
         Ok(())
     }
-
-    ghost lawful = { λ k. table_lawful k.table.sets.items k.table.guards k.long (Prim.search rules) (Prim.search rules) k.table.few k.table.known };
 }
 
 impl NarrowKind for EventWords {
     fn largest(&self) -> u32 {
         65535
     }
-
-    ghost narrow = { λ k x. table_narrow k.table.sets.items k.table.guards k.long (Prim.search rules) x };
 }
 
 // Joins the guard to the sets of the words that the pattern admits.

@@ -1,5 +1,5 @@
 // What every label kind answers.
-ghost use Rattle.std.specs.Prelude.{◌≡◌, ℕ, ◌^◌, ◌<◌, true, Some};
+ghost use Rattle.std.specs.Prelude.{◌≡◌, Some};
 ghost use Rattle.labels.specs.Meaning.{Lawful, IsLeast, IsLargest};
 ghost use Rattle.labels.specs.Adding.{Book, Adds, fault_text, number_of};
 
@@ -48,6 +48,11 @@ pub trait LabelKind {
 
     ghost book: { Self → Book Self.Value };
 
+    // Shows that the meaning is lawful; does nothing.
+    // A method, not a law: a law is owed at every number, also at one that no field of a kind can hold.
+    fn lawful(&self)
+        ensures { Lawful (book self.now).meaning };
+
     // How many guards there are.
     fn count(&self) -> u32
         ensures { result ≡ (book self.now).meaning.guards };
@@ -65,15 +70,10 @@ pub trait LabelKind {
     // Joins the value's labels to the guard.
     fn add(&mut self, guard: u32, value: &Self::Value) -> Result<(), AddFault>
         ensures { Adds (book self.old) guard value.now result (book self.new) };
-
-    // There is a label; labels lie below 2^64; guards hold of labels alone.
-    ghost lawful: { (k : Self) → Lawful (book k).meaning };
 }
 
 // A kind whose labels lie below 2^32.
 pub trait NarrowKind: LabelKind {
     fn largest(&self) -> u32
         ensures { IsLargest (Self.LabelKind.book self.now).meaning result };
-
-    ghost narrow: { (k : Self) (x : ℕ) → (Self.LabelKind.book k).meaning.label x ≡ true → x < 2 ^ 32 };
 }

@@ -1,8 +1,6 @@
 // Tags: labels 0 to 63; a guard is given by single tags.
 ghost use Rattle.std.specs.Prelude.{◌≡◌, false, length, ◌==◌, nat_lt};
-ghost use Rattle.std.proofs.Common.{rules};
 ghost use Rattle.labels.specs.Meaning.{Fresh};
-ghost use Rattle.labels.specs.Laws.{table_lawful, table_narrow};
 ghost use Rattle.labels.specs.Tables.{table_meaning};
 
 use crate::kind::{AddFault, LabelKind, NarrowKind};
@@ -36,6 +34,9 @@ impl LabelKind for Tags {
 
     ghost book = { λ k. record { meaning = table_meaning k.table.sets k.table.guards; formed = λ v. nat_lt v.0 64; labels = λ v x. (x == v.0); full = λ _ _. false } };
 
+    #[tactic(auto, using(crate::specs::Laws::table_lawful))]
+    fn lawful(&self) {}
+
     fn count(&self) -> u32 {
         self.table.guards
     }
@@ -66,14 +67,10 @@ impl LabelKind for Tags {
         self.table.sets[i] = self.table.sets[i].with(guard);
         Ok(())
     }
-
-    ghost lawful = { λ k. table_lawful k.table.sets k.table.guards k.long (Prim.search rules) (Prim.search rules) k.table.few k.table.known };
 }
 
 impl NarrowKind for Tags {
     fn largest(&self) -> u32 {
         63
     }
-
-    ghost narrow = { λ k x. table_narrow k.table.sets k.table.guards k.long (Prim.search rules) x };
 }

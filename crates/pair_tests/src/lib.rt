@@ -9,3 +9,5 @@ mod books;
 mod compare;
 #[cfg(test)]
 mod least;
+#[cfg(test)]
+mod up_to;

@@ -1,5 +1,5 @@
 -- The search for the least label of a pair.
-use Rattle.std.specs.Prelude.{◌≡◌, ℕ, ◌<◌, ◌≤◌, Bool, true, ◌⊎◌, List, is_some, Some, None, Option, ◌≢◌}
+use Rattle.std.specs.Prelude.{◌≡◌, ℕ, ◌^◌, ◌<◌, ◌≤◌, Bool, true, ◌⊎◌, List, is_some, Some, None, Option, ◌≢◌}
 use Rattle.std.specs.Fn.{AnyResult, Shared}
 use Rattle.labels.specs.Edges.{AtMost}
 use Rattle.labels.specs.Meaning.{Meaning, Fits}
@@ -61,3 +61,6 @@ pub record LeastOf (P : ℕ → Type 0) (best r : Option ℕ) : Type 0 where
 -- r is the least of best and of the labels that fit the meaning m and have a first part of the branch, in the meaning a
 abbrev pub Searched : Meaning → Meaning → Path → Option ℕ → Option ℕ → Type 0
 Searched m a p best r = LeastOf (λ y. Fits a p.ins.0 p.outs.0 (first_of y) × Fits m p.yes.0 p.no.0 y) best r
+
+abbrev pub Narrow : Meaning → Type 0
+Narrow m = (x : ℕ) → m.label x ≡ true → x < 2 ^ 32

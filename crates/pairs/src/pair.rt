@@ -1,7 +1,6 @@
 // The pair of two narrow kinds: a label of each, and guards that hold where a guard of each holds.
 ghost use Rattle.std.specs.Prelude.{◌≡◌, ℕ, None};
 ghost use Rattle.labels.specs.Meaning.{Fresh};
-ghost use Rattle.pairs.specs.Laws.{pair_lawful};
 ghost use Rattle.pairs.specs.Pairs.{pair_book, pair_label, pair_meaning, value_at};
 
 mod search;
@@ -44,6 +43,12 @@ impl<A: NarrowKind, B: NarrowKind> LabelKind for Pair<A, B> {
 
     ghost book = { λ p. pair_book (A.LabelKind.book p.first).meaning (B.LabelKind.book p.second).meaning p.values.list p.values.guards };
 
+    fn lawful(&self) {
+        self.first.lawful();
+        self.second.lawful();
+        self.narrow();
+    }
+
     fn count(&self) -> u32 {
         self.values.count()
     }
@@ -78,6 +83,9 @@ impl<A: NarrowKind, B: NarrowKind> LabelKind for Pair<A, B> {
         if guard > 31 {
             return Err(AddFault::Guard);
         }
+        // each part has at most 32 guards
+        self.first.lawful();
+        self.second.lawful();
         let v = *value;
         if v.first >= self.first.count() || v.second >= self.second.count() {
             return Err(AddFault::Value);
@@ -88,6 +96,4 @@ impl<A: NarrowKind, B: NarrowKind> LabelKind for Pair<A, B> {
         self.values.put(guard, v);
         Ok(())
     }
-
-    ghost lawful = { λ k. pair_lawful (A.LabelKind.book k.first).meaning (B.LabelKind.book k.second).meaning k.values.list k.values.guards (A.LabelKind.lawful k.first) (B.LabelKind.lawful k.second) (A.NarrowKind.narrow k.first) (B.NarrowKind.narrow k.second) k.values.few k.values.known };
 }

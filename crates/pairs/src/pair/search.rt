@@ -3,7 +3,7 @@
 ghost use Rattle.std.specs.Prelude.{◌≡◌, min, Some, None, MatchOption};
 ghost use Rattle.labels.specs.Meaning.{IsLeast};
 ghost use Rattle.pairs.specs.Pairs.{pair_meaning};
-ghost use Rattle.pairs.specs.Search.{Branch, Next, Searched};
+ghost use Rattle.pairs.specs.Search.{Branch, Narrow, Next, Searched};
 
 use crate::pair::{Pair, SPAN};
 use labels::kind::{LabelKind, NarrowKind};
@@ -64,12 +64,22 @@ impl<A: NarrowKind, B: NarrowKind> Pair<A, B> {
         requires least { IsLeast (A.LabelKind.book self.now.first).meaning path.ins.0 path.outs.0 (Some x) }
         ensures { Searched (pair_meaning (A.LabelKind.book self.now.first).meaning (B.LabelKind.book self.now.second).meaning self.now.values.list self.now.values.guards) (A.LabelKind.book self.now.first).meaning path best result }
     {
+        self.narrow();
         let wanted = self.values.seconds(path.yes, path.ins);
         let barred = self.values.seconds(path.no, path.ins);
         let Some(y) = self.second.least(wanted, barred) else {
             return best;
         };
         Some(lesser(best, x * SPAN + y))
+    }
+
+    // Shows that the labels of both parts lie below 2^32; does nothing.
+    pub(super) fn narrow(&self)
+        ensures first { Narrow (A.LabelKind.book self.now.first).meaning }
+        ensures second { Narrow (B.LabelKind.book self.now.second).meaning }
+    {
+        let _ = self.first.largest();
+        let _ = self.second.largest();
     }
 }
 

@@ -8,7 +8,7 @@ pub of_atoms-requires-clause-sound : goal.of_atoms-requires-clause-sound
 of_atoms-requires-clause-sound g c =
     let m = (g.K.LabelKind.book c.args.kind.now).meaning in
     let listed = subst (λ xs. Lists m xs (length xs)) (sym c.deref.ensures.0) c.in_ok-found.ensures in
-    subst (Sound c.deref.result.now (length c.deref.result.now)) (sym c.count.ensures) (lists_sound m (g.met.K.LabelKind.lawful c.args.kind.now) c.deref.result.now listed)
+    subst (Sound c.deref.result.now (length c.deref.result.now)) (sym c.count.ensures) (lists_sound m c.lawful.ensures c.deref.result.now listed)
 
 pub returns : goal.returns
 returns g c =
@@ -24,5 +24,5 @@ returns g c =
       },
       c.count-2.ensures,
       c.guards.ensures,
-      not_more m (g.met.K.LabelKind.lawful c.args.kind.now) c.deref.result.now listed 16 c.deref.ensures.1,
+      not_more m c.lawful.ensures c.deref.result.now listed 16 c.deref.ensures.1,
     )

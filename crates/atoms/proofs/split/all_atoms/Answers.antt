@@ -21,7 +21,7 @@ returns g c =
     let found = c.loop-g.atoms in
     let sorted = c.sort_unstable_by_key.new.self in
     let all : c.loop-g.g ≡ m.guards = omega (arith, c.count-g-end.ensures) in
-    let whole = last_covers m found.items (g.met.K.LabelKind.lawful c.args.kind.now) (subst (λ n. Covers (first n m) (λ x. Unit {0}) found.items) all c.loop-g.invariant) in
+    let whole = last_covers m found.items c.lawful.ensures (subst (λ n. Covers (first n m) (λ x. Unit {0}) found.items) all c.loop-g.invariant) in
     let moved : IsPermutation found.items sorted = subst (λ xs. IsPermutation xs sorted) c.deref_mut.ensures.value c.sort_unstable_by_key.ensures.permutation in
     let up = IsNonDecreasingBy-from_sort_by_key (λ (a : Atom). a.label) sorted c.sort_unstable_by_key.ensures.sorted (λ a r q k. search rules) in
     subst (λ xs. Lists m xs (length xs)) (sym (items-with_items found sorted (length_permutation _ _ moved))) (sorted_lists whole moved up)
