@@ -62,19 +62,29 @@ impl GuardSet {
         ensures chosen { (g : ℕ) → g < 32 → F.post f g (has result.0 g) }
         ensures small { (g : ℕ) → 32 ≤ g → has result.0 g ≡ false }
     {
-        let mut set = GuardSet::none();
-        for g in 0..32 {
-            if f(g) {
-                set = set.with(g);
-            }
-        }
-        set
+        GuardSet::below(32, f)
     }
 
     // The guards below `count` that are not here.
     pub fn others(self, count: u32) -> GuardSet
         ensures { (g : ℕ) → has result.0 g ≡ (nat_lt g (min count 32) && not (has self.0 g)) }
     {
-        GuardSet::from_fn(|g| g < count && !self.contains(g))
+        GuardSet::below(count.min(32), |g| !self.contains(g))
+    }
+
+    // The guards below `count` for which `f` answers yes; it is not asked about others.
+    fn below<F: Fn(u32) -> bool>(count: u32, f: F) -> GuardSet
+        requires few { count ≤ 32 }
+        requires may { (g : ℕ) → g < count → F.pre f g }
+        ensures chosen { (g : ℕ) → g < count → F.post f g (has result.0 g) }
+        ensures small { (g : ℕ) → count ≤ g → has result.0 g ≡ false }
+    {
+        let mut set = GuardSet::none();
+        for g in 0..count {
+            if f(g) {
+                set = set.with(g);
+            }
+        }
+        set
     }
 }

@@ -5,7 +5,8 @@ use Rattle.labels.proofs.set.GuardSet.others.Goals as goal
 
 pub returns : goal.returns
 returns c = λ g.
+    let least = c.min.ensures in
     ⊎_elim
-    (λ under. let said = c.from_fn.ensures.chosen g under in grind (arith, nat_tests, said))
-    (λ past. let none = c.from_fn.ensures.small g past in grind (arith, nat_tests))
-    (cases_lt g 32)
+    (λ under. let said = c.below.ensures.chosen g under in grind (arith, nat_tests, said))
+    (λ past. let none = c.below.ensures.small g past in grind (arith, nat_tests))
+    (cases_lt g c.min.result)

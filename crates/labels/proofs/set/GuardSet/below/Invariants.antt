@@ -1,6 +1,6 @@
 use Rattle.std.proofs.Common.{◌≡◌, ℕ, ◌<◌, ◌≤◌, false}
 use Rattle.labels.specs.Sets.{has}
-use Rattle.labels.proofs.set.GuardSet.from_fn.Given as goal
+use Rattle.labels.proofs.set.GuardSet.below.Given as goal
 
 abbrev pub invariant-loop-g : goal.invariant-loop-g
 invariant-loop-g g l = record {
