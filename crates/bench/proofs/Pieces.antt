@@ -1,22 +1,19 @@
 -- The bytes of a bench, cut into shelves.
-use Rattle.std.proofs.Common.{◌≡◌, ℕ, ◌+◌, ◌*◌, ◌<◌, ◌≤◌, true, List, Some, None, Option, length, sym, subst, ◌∙◌, ⊎_elim, arith, MatchOption}
+use Rattle.std.proofs.Common.{◌≡◌, ℕ, ◌+◌, ◌-◌, ◌*◌, ◌<◌, ◌≤◌, List, Some, None, Option, ltb, length, take, drop, sym, ap, ◌∙◌, subst, arith, MatchOption, is_some}
+use Rattle.std.proofs.lemmas.Bool.{ltb-true, ltb-false}
 use denote.Ref.{Bor}
 use Rattle.std.specs.Option.{IfSome}
-use Rattle.std.specs.List.{IsSubsliceAt}
-use Rattle.std.specs.Iterator.Runs.{Run, HasSameItems, IsChunksExactRun}
-use Rattle.std.proofs.lemmas.Bool.{cases_lt}
 use Rattle.bench.specs.Benches.{shelves_in, AllSound, Stored}
 use Rattle.bench.specs.Shelves.{Sound}
+use Rattle.bench.proofs.Writing.{length_shelf}
 
--- p are the first 8 of q, the whole chunks
-module _ {S T : Type 0} {steps : S → Option (Bor (List ℕ)) → S → Type 0} {source : T → Option (Bor (List ℕ)) → T → Type 0} (n : ℕ) (bs : List ℕ) (sound : AllSound n bs) (p : Run steps) (q : Run source) (few : p.len ≤ 8) (same : HasSameItems p q) (more : p.whole ≡ true → p.len < 8 → q.whole ≡ true) (chunks : IsChunksExactRun q 16945 bs) (k : ℕ) where
-  pub nth_stored : (r : Option (Bor (List ℕ))) → MatchOption r ((p.whole ≡ true) × (p.len ≤ k)) (λ x. (p.len ≡ k + 1) × (p.at k ≡ Some x)) → MatchOption r (shelves_in (length bs) ≤ k) (λ s. Stored n bs k s.now)
-  nth_stored None h =
-      let e = same.0 in
-      ⊎_elim (λ lt. let all = chunks.1 (more h.0 lt) in omega arith) (λ le. omega arith) (cases_lt p.len 8)
-  nth_stored (Some x) h =
-      let e = same.0 in
-      let within = chunks.0 in
-      let chunk = subst (λ o. IfSome o (λ y. (length y.now ≡ 16945) × (k * 16945 + 16945 ≤ length bs) × IsSubsliceAt 16945 bs (k * 16945) y.now)) (same.2 k ∙ h.1) (chunks.2 k) in
+-- the bytes of shelf k, if there is one
+module _ (n : ℕ) (bs : List ℕ) (sound : AllSound n bs) (k m : ℕ) (count : m ≡ shelves_in (length bs)) where
+  pub cut_stored : (r : Option (Bor (List ℕ))) → is_some r ≡ ltb k m → IfSome r (λ s. s.now ≡ take (k * 16945 + 16945 - k * 16945) (drop (k * 16945) bs)) → MatchOption r (shelves_in (length bs) ≤ k) (λ s. Stored n bs k s.now)
+  cut_stored None e h = let past = ltb-false k m (sym e) in omega arith
+  cut_stored (Some x) e h =
+      let under = ltb-true k m (sym e) in
       let on : k < shelves_in (length bs) = omega arith in
-      record { on = on; same = chunk.2.0; long = chunk.0; sound = subst (λ cs. ∥ Sound n cs ∥₁) (sym chunk.2.0) (sound k on) }
+      let wide : k * 16945 + 16945 - k * 16945 ≡ 16945 = omega arith in
+      let same = h ∙ ap (λ n. take n (drop (k * 16945) bs)) wide in
+      record { on = on; same = same; long = ap length same ∙ length_shelf bs k on; sound = subst (λ cs. ∥ Sound n cs ∥₁) (sym same) (sound k on) }

@@ -3,15 +3,15 @@ use Rattle.std.proofs.Common.{◌≡◌, ℕ, ◌+◌, ◌-◌, ◌*◌, ◌<◌
 use borrow.Rule.Slice.PartMut.{put_mid}
 use Rattle.std.proofs.lemmas.List.{places, ext_get_or, length-take, length-drop}
 use Rattle.std.proofs.lemmas.Slice.{between-put_mid}
-use Rattle.std.proofs.lemmas.Bool.{cases_lt}
-use Rattle.bench.specs.Shelves.{Fresh}
-use Rattle.bench.specs.Benches.{shelves_in, shelf_at}
+use Rattle.std.proofs.lemmas.Bool.{cases_lt, cases_eq}
+use Rattle.bench.specs.Shelves.{Sound, Fresh}
+use Rattle.bench.specs.Benches.{shelves_in, shelf_at, AllSound}
 
 -- a byte of a shelf
 byte_at : (xs : List ℕ) (k i : ℕ) → i < 16945 → get_or (shelf_at xs k) i 0 ≡ get_or xs (k * 16945 + i) 0
 byte_at xs k i l = search (rules, places)
 
-length_shelf : (xs : List ℕ) (k : ℕ) → k < shelves_in (length xs) → length (shelf_at xs k) ≡ 16945
+pub length_shelf : (xs : List ℕ) (k : ℕ) → k < shelves_in (length xs) → length (shelf_at xs k) ≡ 16945
 length_shelf xs k l = simp (length-take, length-drop) (omega arith)
 
 -- lists that agree where a shelf stands have the same shelf there
@@ -48,6 +48,16 @@ module _ (xs ys : List ℕ) (k w : ℕ) (l : k < shelves_in (length xs)) (wide :
       (λ lt. same_shelf xs (put_mid (k * 16945) w xs ys) j length_written (λ i m n. below_written i (omega arith)) h)
       (λ le. same_shelf xs (put_mid (k * 16945) w xs ys) j length_written (λ i m n. past_written i (omega arith)) h)
       (cases_lt j k)
+
+-- a sound shelf written leaves all shelves sound
+pub sound_written : (n : ℕ) (xs ys : List ℕ) (k w : ℕ) → k < shelves_in (length xs) → w ≡ 16945 → length ys ≡ w → AllSound n xs → ∥ Sound n ys ∥₁ → AllSound n (put_mid (k * 16945) w xs ys)
+sound_written n xs ys k w l wide long all sound j m =
+    let P : List ℕ → Type 0 = λ bs. ∥ Sound n bs ∥₁ in
+    let same = length_written xs ys k w l wide long in
+    ⊎_elim
+    (λ e. subst (λ i. P (shelf_at (put_mid (k * 16945) w xs ys) i)) (sym e) (subst P (sym (shelf_written xs ys k w l wide long)) sound))
+    (λ ne. subst P (sym (shelf_other xs ys k w l wide long j (omega arith) ne)) (all j (omega arith)))
+    (cases_eq j k)
 
 -- the first k shelves are fresh, and what lies past them is as it was
 pub record ClearedTo (before : List ℕ) (k : ℕ) (after : List ℕ) : Type 0 where

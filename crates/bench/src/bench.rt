@@ -45,7 +45,7 @@ impl<'a> Bench<'a> {
     pub fn shelf(&self, k: usize) -> Option<&[u8]>
         ensures { MatchOption result (shelves_in (length self.now.bytes.now) ≤ k) (λ s. Stored self.now.table.count self.now.bytes.now k s.now) }
     {
-        self.bytes.chunks_exact(SHELF).take(SHELVES).nth(k)
+        (k < self.shelves()).then(|| &self.bytes[k * SHELF..k * SHELF + SHELF])
     }
 }
 
