@@ -1,12 +1,14 @@
 -- Laws of `has`: the bits of a number as a set.
-use Rattle.std.proofs.Common.{◌≡◌, ℕ, zero, suc, ◌+◌, ◌-◌, ◌*◌, ◌/◌, ◌%◌, ◌^◌, ◌<◌, ◌≤◌, Bool, true, false, ◌&&◌, ◌||◌, eqb, ltb, Decides, sym, refl, ap, ◌∙◌, ⊎_elim, pow-suc, arith, pow_mono}
+use Rattle.std.proofs.Common.{◌≡◌, ℕ, zero, suc, ◌+◌, ◌-◌, ◌*◌, ◌/◌, ◌%◌, ◌^◌, ◌<◌, ◌≤◌, Bool, true, false, not, ◌&&◌, ◌||◌, min, eqb, ltb, Decides, sym, refl, ap, ◌∙◌, ⊎_elim, pow-suc, arith, pow_mono}
 use lib.Arith.{bin_ind}
 use lib.Bits.{bit_and, bit_or, and_shr, or_shr, and_mod, or_mod}
 use native.Mathlib.Nat.{div-eq_of_lt, div_self}
 use Rattle.std.proofs.Math.Bool.{and-true}
 use Rattle.std.proofs.lemmas.Nat.{shr-shr, shl-shr, mod_below, pow_pos, pow-add, pow_below, one_shl, and_mask}
-use Rattle.std.proofs.lemmas.Bool.{eqb-true, eqb-false, eq-eqb, ne_eqb, lt-ltb, cases_order, and_parts, both_ways}
+use Rattle.std.proofs.lemmas.Nat.Bits.{bit_at-lt, bit_at_ones, bit_at_not}
+use Rattle.std.proofs.lemmas.Bool.{eqb-true, eqb-false, eq-eqb, ne_eqb, lt-ltb, le-ltb, cases_lt, cases_order, and_parts, both_ways}
 use Rattle.std.proofs.lemmas.Bool.Decides.{nat_tests}
+use Rattle.std.specs.Int.{bit_at, w32}
 use Rattle.labels.specs.Sets.{has}
 
 and_digit : (p q : ℕ) → p < 2 → q < 2 → eqb (bit_and p q) 1 ≡ (eqb p 1 && eqb q 1)
@@ -127,6 +129,34 @@ excludes_decides s o = (
 pub has_with : (s k g : ℕ) → k < 32 → has (bit_or s (1 * 2 ^ k % 2 ^ 32)) g ≡ (has s g || (eqb g k && ltb k 32))
 has_with s k g small =
     ap (λ n. has (bit_or s n) g) (one_shl k 32 small) ∙ has_or s (2 ^ k) g ∙ ap (λ b. has s g || b) (has_one k g ∙ sym (ap (λ b. eqb g k && b) (lt-ltb k 32 small) ∙ and-true (eqb g k)))
+
+-- `(1 << k) - 1`
+has_low : (k g : ℕ) → has (2 ^ k - 1) g ≡ ltb g k
+unfolding has
+has_low k g =
+    let some = pow_pos k in
+    ⊎_elim
+    (λ under. ap (λ n. eqb n 1) (bit_at_ones k g under) ∙ sym (lt-ltb g k under))
+    (λ past. has_past (2 ^ k - 1) k g (omega arith) past ∙ sym (le-ltb g k past))
+    (cases_lt g k)
+
+not_digit : (d : ℕ) → d < 2 → eqb (1 - d) 1 ≡ not (eqb d 1)
+not_digit zero h = refl
+not_digit (suc zero) h = refl
+not_digit (suc (suc d)) h = absurd (omega arith)
+
+has_not : (s g : ℕ) → s < 2 ^ 32 → g < 32 → has (2 ^ 32 - 1 - s) g ≡ not (has s g)
+unfolding has
+has_not s g small low = ap (λ n. eqb n 1) (bit_at_not w32 s g small low) ∙ not_digit (bit_at s g) (bit_at-lt s g)
+
+-- `!s & below`, where `below` has the numbers below k, and no more than 32
+pub has_others : (s k below g : ℕ) → s < 2 ^ 32 → below ≡ 2 ^ min k 32 - 1 → has (bit_and (2 ^ 32 - 1 - s) below) g ≡ (ltb g (min k 32) && not (has s g))
+has_others s k below g small is =
+    let both = has_and (2 ^ 32 - 1 - s) below g ∙ ap (λ n. has (2 ^ 32 - 1 - s) g && has n g) is ∙ ap (λ b. has (2 ^ 32 - 1 - s) g && b) (has_low (min k 32) g) in
+    ⊎_elim
+    (λ under. let turned = has_not s g small (omega arith) in grind (arith, nat_tests, both, turned))
+    (λ past. grind (arith, nat_tests, both))
+    (cases_lt g (min k 32))
 
 -- `s >> k & 1 == 1`
 pub has_shifted : (s k : ℕ) → eqb (bit_and (s / 2 ^ k) 1) 1 ≡ has s k

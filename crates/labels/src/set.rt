@@ -75,6 +75,11 @@ impl GuardSet {
     pub fn others(self, count: u32) -> GuardSet
         ensures { (g : ℕ) → has result.0 g ≡ (nat_lt g (min count 32) && not (has self.0 g)) }
     {
-        GuardSet::from_fn(|g| g < count && !self.contains(g))
+        let below = if count < 32 {
+            (1 << count) - 1
+        } else {
+            u32::MAX
+        };
+        GuardSet(!self.0 & below)
     }
 }

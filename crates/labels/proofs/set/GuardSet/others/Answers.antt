@@ -1,11 +1,15 @@
-use Rattle.std.proofs.Common.{⊎_elim, arith}
-use Rattle.std.proofs.lemmas.Bool.{cases_lt}
-use Rattle.std.proofs.lemmas.Bool.Decides.{nat_tests}
+use Rattle.std.proofs.Common.{rules, ◌≡◌, min, ◌-◌, ◌^◌, arith}
+use Rattle.std.proofs.lemmas.Nat.{one_shl}
+use Rattle.labels.proofs.Bits.{has_others}
 use Rattle.labels.proofs.set.GuardSet.others.Goals as goal
+use Rattle.labels.proofs.set.GuardSet.others.Goals.{then-count-lt32, else-count-lt32}
 
 pub returns : goal.returns
-returns c = λ g.
-    ⊎_elim
-    (λ under. let said = c.from_fn.ensures.chosen g under in grind (arith, nat_tests, said))
-    (λ past. let none = c.from_fn.ensures.small g past in grind (arith, nat_tests))
-    (cases_lt g 32)
+returns c =
+    let below : c.if-count-lt32.below ≡ 2 ^ min c.args.count 32 - 1 =
+    elim c.if-count-lt32.branch [
+      | then-count-lt32 w ↦ let few = one_shl c.args.count 32 w.if-count-lt32.true in grind (arith, few, w.below-is)
+      | else-count-lt32 w ↦ grind (arith, w.below-is)
+    ]
+    in
+    λ g. has_others c.args.self.0 c.args.count c.if-count-lt32.below g (search rules) below
