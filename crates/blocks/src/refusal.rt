@@ -29,7 +29,7 @@ pub enum Refusal {
 }
 
 impl Refusal {
-    // The number that is printed. By cases: cases that name a line have no discriminant, and `AddFault` numbers only three.
+    // The number that is printed. By cases: cases that name a line have no discriminant.
     pub fn number(self) -> u32
         ensures { result ≡ number_of self }
     {

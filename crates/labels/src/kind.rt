@@ -11,19 +11,23 @@ use std::fmt;
 #[derive(Clone, Copy, Debug, PartialEq, Eq)]
 pub enum AddFault {
     // the guard's number is above 31
-    Guard = 10,
+    Guard,
     // the value is not of the kind's form
-    Value = 11,
+    Value,
     // there is no place for one more value
-    Full = 12,
+    Full,
 }
 
 impl AddFault {
-    // The number of the refusal.
+    // The number of the refusal. By cases, not by discriminants: a cast of the fault counts its cases from 0.
     pub fn number(self) -> u32
         ensures { result ≡ number_of self }
     {
-        self as u32
+        match self {
+            AddFault::Guard => 10,
+            AddFault::Value => 11,
+            AddFault::Full => 12,
+        }
     }
 }
 

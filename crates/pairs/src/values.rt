@@ -90,8 +90,9 @@ impl Values {
     {
         let mut set = GuardSet::none();
         for (g, value) in self.list.iter().enumerate() {
-            if let Some(v) = value
-                && guards.contains(g as u32)
+            // first whether the guard is asked for, which takes no look at the value
+            if guards.contains(g as u32)
+                && let Some(v) = value
                 && keep(*v)
             {
                 set = set.with(part(*v));

@@ -3,7 +3,7 @@ use Rattle.labels.specs.Sets.{has}
 use Rattle.pairs.specs.Pairs.{value_at}
 use Rattle.pairs.proofs.Gathering.{one_passed, one_kept, all_gathered}
 use Rattle.pairs.proofs.values.Values.gather.Goals as goal
-use Rattle.pairs.proofs.values.Values.gather.Goals.{in-Some+then-contains+then-keep, in_default, in_default-via-in-None-1, in_default-via-in-Some+else-contains, in_default-via-in-Some+then-contains+else-keep}
+use Rattle.pairs.proofs.values.Values.gather.Goals.{then-contains+in-Some+then-keep, else-contains, else-contains-via-then-contains+in-None-1, else-contains-via-else-contains, else-contains-via-then-contains+in-Some+else-keep}
 
 pub loop-g-preserved : goal.loop-g-preserved
 loop-g-preserved g c kept number keeps parts =
@@ -11,8 +11,8 @@ loop-g-preserved g c kept number keeps parts =
     let gs = c.args.guards.0 in
     let i = c.loop-g.g in
     let sofar = c.loop-g.invariant kept number keeps parts in
-    elim c.match-value.branch [
-      | in-Some+then-contains+then-keep w ↦
+    elim c.if-contains.branch [
+      | then-contains+in-Some+then-keep w ↦
           let v = w.in-Some.v in
           let chosen : has gs i ≡ true = search rules in
           let given : value_at vs i ≡ Some v = search rules in
@@ -20,11 +20,11 @@ loop-g-preserved g c kept number keeps parts =
           let number-is = parts v w.part.result w.part.ensures in
           let small : number v < 32 = omega (arith, c.requires.small v low.0 low.1 w.part.result w.part.ensures) in
           rw w.set-is (one_kept vs gs kept number i c.loop-g.set.0 sofar v w.with-set.result.0 chosen given (sym (keeps v w.keep.result w.keep.ensures) ∙ w.if-keep.true) small (rw number-is at w.with-set.ensures))
-      | in_default w ↦ rw w.set-is (one_passed vs gs kept number i c.loop-g.set.0 sofar (λ v chosen given is.
-          elim w.in_default.branch [
-            | in_default-via-in-None-1 w' ↦ search rules
-            | in_default-via-in-Some+else-contains w' ↦ search rules
-            | in_default-via-in-Some+then-contains+else-keep w' ↦ let says = keeps w'.in-Some.v w'.keep.result w'.keep.ensures in search rules
+      | else-contains w ↦ rw w.set-is (one_passed vs gs kept number i c.loop-g.set.0 sofar (λ v chosen given is.
+          elim w.else-contains.branch [
+            | else-contains-via-then-contains+in-None-1 w' ↦ search rules
+            | else-contains-via-else-contains w' ↦ search rules
+            | else-contains-via-then-contains+in-Some+else-keep w' ↦ let says = keeps w'.in-Some.v w'.keep.result w'.keep.ensures in search rules
           ]))
     ]
 
