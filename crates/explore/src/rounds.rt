@@ -59,6 +59,7 @@ fn labels<E: Entry, S: Stepping<E>, F: Fn(usize) -> E>(
     requires stands { Stands (S.Stepping.steps steps.now) found.old firsts.old round (count children) (left children) (right children) 0 }
     ensures { GoesOn (S.Stepping.steps steps.now) found.old round result found.new firsts.new (count children) (left children) (right children) (S.Stepping.steps steps.now).atoms }
 {
+    steps.fit();
     for a in 0..steps.atoms() {
         try_one(found, firsts, children, a, thing(a))?;
     }
@@ -77,6 +78,7 @@ fn singles<E: Entry, S: Stepping<E>>(
     requires stands { Stands (S.Stepping.steps steps.now) found.old firsts.old round 1 round.old 0 0 }
     ensures { GoesOn (S.Stepping.steps steps.now) found.old round result found.new firsts.new 2 0 0 0 }
 {
+    steps.fit();
     for p in round.old..round.start {
         let child = found.get(p);
         labels(steps, found, firsts, round, Children::One(p), |a| {
@@ -116,6 +118,7 @@ fn doubles_from<E: Entry, S: Stepping<E>>(
     requires stands { Stands (S.Stepping.steps steps.now) found.old firsts.old round 2 p 0 0 }
     ensures { GoesOn (S.Stepping.steps steps.now) found.old round result found.new firsts.new 2 (p + 1) 0 0 }
 {
+    steps.fit();
     let left = found.get(p);
     let row = steps.row(&left);
     let from = if p < round.old { round.old } else { 0 };

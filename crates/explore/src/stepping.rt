@@ -19,6 +19,12 @@ pub trait Stepping<E: Entry> {
     // what has to hold for the answers to be those of the steps: whoever passes steps knows it of these, since a type may have others
     ghost sound: { Self → Type 0 };
 
+    // Shows that the steps stay among the things that may be asked about; does nothing.
+    // A method, not a law: a law is owed at every number, also at one that no field can hold.
+    fn fit(&self)
+        requires sound { sound self.now }
+        ensures { Fit (steps self.now) };
+
     fn accepts(&self, e: &E) -> bool
         requires sound { sound self.now }
         requires fine { (steps self.now).fine e.now ≡ true }
@@ -54,7 +60,4 @@ pub trait Stepping<E: Entry> {
         requires row { prepared self.now p.now row.now }
         requires label { a < (steps self.now).atoms }
         ensures { result ≡ (steps self.now).double p.now q.now a };
-
-    // the steps stay among the things that may be asked about
-    ghost fit: { (s : Self) → sound s → Fit (steps s) };
 }

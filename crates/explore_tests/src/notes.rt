@@ -26,6 +26,8 @@ impl Stepping<Item> for Notes<'_> {
 
     ghost sound = { λ s. Sound s.next.now };
 
+    fn fit(&self) {}
+
     fn accepts(&self, e: &Item) -> bool {
         e.note == 0
     }
@@ -48,8 +50,6 @@ impl Stepping<Item> for Notes<'_> {
     fn double(&self, _p: &Item, _row: &(), q: &Item, _a: usize) -> Item {
         *q
     }
-
-    ghost fit = { λ s sound. Prim.search (rules, common_steps) };
 }
 
 // All items that steps lead to.

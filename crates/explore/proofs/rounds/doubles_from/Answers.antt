@@ -8,7 +8,7 @@ use Rattle.explore.proofs.rounds.doubles_from.Goals.{then-p-round, else-p-round}
 pub row-row-requires : goal.row-row-requires
 row-row-requires g c =
     let stands = c.requires.stands in
-    record { sound = c.requires.sound; fine = fine_at (g.met.S.Stepping.fit c.args.steps.now c.requires.sound) stands c.args.p (omega (arith, c.requires.turn, stands.at.ordered.1)) c.get-left.result c.get-left.ensures }
+    record { sound = c.requires.sound; fine = fine_at c.fit.ensures stands c.args.p (omega (arith, c.requires.turn, stands.at.ordered.1)) c.get-left.result c.get-left.ensures }
 
 pub loop-q-init : goal.loop-q-init
 loop-q-init g c =
@@ -21,7 +21,7 @@ loop-q-init g c =
 pub labels-requires-clause-may : goal.labels-requires-clause-may
 labels-requires-clause-may g c =
     let S = g.S.Stepping.steps c.args.steps.now in
-    let fit = g.met.S.Stepping.fit c.args.steps.now c.requires.sound in
+    let fit = c.fit.ensures in
     let before = c.requires.stands in
     let stands = c.loop-q.invariant.0 in
     let left : S.fine c.get-left.result ≡ true = fine_at fit before c.args.p (omega (arith, c.requires.turn, before.at.ordered.1)) c.get-left.result c.get-left.ensures in

@@ -6,7 +6,7 @@ use Rattle.explore.proofs.rounds.singles.Goals as goal
 pub labels-requires-clause-may : goal.labels-requires-clause-may
 labels-requires-clause-may g c =
     let stands = c.loop-p.invariant.0 in
-    let fine : (g.S.Stepping.steps c.args.steps.now).fine c.get-child.result ≡ true = fine_at (g.met.S.Stepping.fit c.args.steps.now c.requires.sound) stands c.loop-p.p (omega (arith, c.loop-p-test.true, stands.at.ordered.1)) c.get-child.result c.get-child.ensures in
+    let fine : (g.S.Stepping.steps c.args.steps.now).fine c.get-child.result ≡ true = fine_at c.fit.ensures stands c.loop-p.p (omega (arith, c.loop-p-test.true, stands.at.ordered.1)) c.get-child.result c.get-child.ensures in
     search rules
 
 pub loop-p-preserved : goal.loop-p-preserved
