@@ -21,6 +21,12 @@ pub trait TreeAutomaton {
     // have others
     ghost sound: { Self → Type 0 };
 
+    // Shows that the automaton is complete and small enough; does nothing.
+    // A method, not a law: a law is owed at every number, also at one that no field can hold.
+    fn fit(&self)
+        requires sound { sound self.now }
+        ensures { Fit (letters self.now) (meaning self.now) };
+
     // How many states there are.
     fn size(&self) -> usize
         requires sound { sound self.now }
@@ -63,7 +69,4 @@ pub trait TreeAutomaton {
         requires atom { a < letters self.now }
         requires row { prepared self.now p row.now }
         ensures { result ≡ (meaning self.now).double p q a };
-
-    // It is complete and small enough.
-    ghost fit: { (m : Self) → sound m → Fit (letters m) (meaning m) };
 }

@@ -36,6 +36,7 @@ impl<M: TreeAutomaton> Partitioned<'_, M> {
         ensures { result ≡ says self.now test p }
     {
         let m = self.machine;
+        m.fit();
         match test {
             Test::Accepts => u16::from(m.accepts(p)),
             Test::Single(a) => self.classes[m.single(p, a)],

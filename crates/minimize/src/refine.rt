@@ -25,6 +25,7 @@ pub fn minimize<M: TreeAutomaton>(
     requires reps_long { length reps.old ≡ 32 }
     ensures { Minimized (M.TreeAutomaton.letters m.now) (M.TreeAutomaton.meaning m.now) result classes.new reps.new }
 {
+    m.fit();
     classes.fill(0);
     reps[0] = 0;
     let mut count = 1;

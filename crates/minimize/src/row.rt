@@ -18,6 +18,7 @@ impl<M: TreeAutomaton> Partitioned<'_, M> {
         requires atom { a < atom_count self.now }
         ensures { result ≡ beside self.now x q a }
     {
+        self.machine.fit();
         self.classes[self.machine.double(x, row, q, a)]
     }
 
@@ -29,6 +30,7 @@ impl<M: TreeAutomaton> Partitioned<'_, M> {
         requires right { q < (automaton self.now).size }
         ensures { RowOf self.now (atom_count self.now) x q result }
     {
+        self.machine.fit();
         let mut classes = [0; 16];
         // by index: with `iter_mut().enumerate()` a proof learns nothing of the entries of a local array
         for a in 0..self.machine.atoms() {
@@ -66,6 +68,7 @@ impl<M: TreeAutomaton> Partitioned<'_, M> {
         requires right { q < (automaton self.now).size }
         ensures { MatchOption result (RowOf self.now (atom_count self.now) x q wanted.now) (λ a. (a < atom_count self.now) × (at wanted.now a ≢ beside self.now x q a)) }
     {
+        self.machine.fit();
         // `find` with a closure takes a third longer over all states
         for (a, &class) in wanted[..self.machine.atoms()].iter().enumerate() {
             if self.class_beside(x, row, q, a) != class {

@@ -1,7 +1,5 @@
 // Automata by a lent list.
 ghost use Rattle.std.specs.Prelude.{◌≡◌, length};
-ghost use Rattle.std.proofs.Common.{rules};
-ghost use Rattle.std.proofs.lemmas.Grind.{common_steps};
 ghost use Rattle.minimize.specs.Minimized.{Minimized};
 ghost use Rattle.minimize_tests.specs.Examples.{arrows, Sound};
 
@@ -25,6 +23,8 @@ impl TreeAutomaton for Arrows<'_> {
     ghost prepared = { λ s p row. Unit {0} };
 
     ghost sound = { λ s. Sound s.next.now };
+
+    fn fit(&self) {}
 
     fn size(&self) -> usize {
         self.next.len()
@@ -51,8 +51,6 @@ impl TreeAutomaton for Arrows<'_> {
     fn double(&self, _p: usize, _row: &(), _q: usize, _a: usize) -> usize {
         0
     }
-
-    ghost fit = { λ s sound. Prim.search (rules, common_steps) };
 }
 
 // The classes of the states of one that is known to be sound.

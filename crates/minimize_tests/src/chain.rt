@@ -1,7 +1,5 @@
 // A chain of states.
 ghost use Rattle.std.specs.Prelude.{◌≤◌};
-ghost use Rattle.std.proofs.Common.{rules};
-ghost use Rattle.std.proofs.lemmas.Grind.{common_steps};
 ghost use Rattle.minimize_tests.specs.Examples.{chain};
 
 use minimize::automaton::TreeAutomaton;
@@ -24,6 +22,8 @@ impl TreeAutomaton for Chain {
     ghost prepared = { λ s p row. Unit {0} };
 
     ghost sound = { λ s. Unit {0} };
+
+    fn fit(&self) {}
 
     fn size(&self) -> usize {
         self.size
@@ -50,6 +50,4 @@ impl TreeAutomaton for Chain {
     fn double(&self, _p: usize, _row: &(), _q: usize, _a: usize) -> usize {
         0
     }
-
-    ghost fit = { λ s _. Prim.search (rules, common_steps) };
 }

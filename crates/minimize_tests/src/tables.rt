@@ -1,7 +1,5 @@
 // Automata given by tables.
 ghost use Rattle.std.specs.Prelude.{◌≡◌, ◌≤◌, [], slice_index_or};
-ghost use Rattle.std.proofs.Common.{rules};
-ghost use Rattle.std.proofs.lemmas.Grind.{common_steps};
 ghost use Rattle.minimize_tests.specs.Examples.{by_tables};
 
 use minimize::automaton::TreeAutomaton;
@@ -33,6 +31,8 @@ impl<'a> TreeAutomaton for Tables<'a> {
 
     ghost sound = { λ s. Unit {0} };
 
+    fn fit(&self) {}
+
     fn size(&self) -> usize {
         self.size
     }
@@ -60,6 +60,4 @@ impl<'a> TreeAutomaton for Tables<'a> {
     fn double(&self, _p: usize, row: &&'a [[usize; 2]; 3], q: usize, a: usize) -> usize {
         row[q][a].min(self.size - 1)
     }
-
-    ghost fit = { λ s _. Prim.search (rules, common_steps) };
 }
