@@ -1,6 +1,4 @@
 // Steps between items by a lent list.
-ghost use Rattle.std.proofs.Common.{rules};
-ghost use Rattle.std.proofs.lemmas.Grind.{common_steps};
 ghost use Rattle.explore.specs.Listing.{Lists};
 ghost use Rattle.explore.specs.Rounds.{Room};
 ghost use Rattle.explore_tests.specs.Examples.{note_steps, Sound};

@@ -43,6 +43,10 @@ impl<M: TreeAutomaton> Stepping<Class> for Partitioned<'_, M> {
 
     ghost sound = { λ c. M.TreeAutomaton.sound c.machine.now };
 
+    fn fit(&self) {
+        self.machine.fit();
+    }
+
     fn accepts(&self, e: &Class) -> bool {
         self.machine.accepts(self.representative(e.0))
     }
@@ -52,10 +56,12 @@ impl<M: TreeAutomaton> Stepping<Class> for Partitioned<'_, M> {
     }
 
     fn none(&self, a: usize) -> Class {
+        self.machine.fit();
         Class(self.classes[self.machine.none(a)])
     }
 
     fn single(&self, p: &Class, a: usize) -> Class {
+        self.machine.fit();
         Class(self.classes[self.machine.single(self.representative(p.0), a)])
     }
 
@@ -66,9 +72,8 @@ impl<M: TreeAutomaton> Stepping<Class> for Partitioned<'_, M> {
     }
 
     fn double(&self, _p: &Class, row: &ClassRow<M::Row>, q: &Class, a: usize) -> Class {
+        self.machine.fit();
         let right = self.representative(q.0);
         Class(self.classes[self.machine.double(row.state, &row.row, right, a)])
     }
-
-    ghost fit = { λ c sound. let fit = M.fit c.machine.now sound in let parts = c.partition in Prim.search (rules, common_steps) };
 }

@@ -54,6 +54,10 @@ impl<E: Entry, S: Stepping<E>> TreeAutomaton for Listed<'_, '_, '_, E, S> {
 
     ghost sound = { λ m. S.Stepping.sound m.steps.now × Whole (S.Stepping.steps m.steps.now) E.Entry.equal m.entries.now };
 
+    fn fit(&self) {
+        self.steps.fit();
+    }
+
     fn size(&self) -> usize {
         self.entries.len()
     }
@@ -81,6 +85,4 @@ impl<E: Entry, S: Stepping<E>> TreeAutomaton for Listed<'_, '_, '_, E, S> {
     fn double(&self, p: usize, row: &S::Row, q: usize, a: usize) -> usize {
         self.place(&self.steps.double(&self.thing(p), row, &self.thing(q), a))
     }
-
-    ghost fit = { λ m sound. let fit = S.fit m.steps.now sound.0 in let whole = sound.1 in Prim.search rules };
 }

@@ -35,6 +35,7 @@ pub fn order_classes<M: TreeAutomaton>(
     requires firsts_long { 96 ≤ length firsts.old }
     ensures { Orders (M.TreeAutomaton.letters m.now) (M.TreeAutomaton.meaning m.now) result classes.new reps.new order.new firsts.new }
 {
+    m.fit();
     let count = minimize(m, classes, next, reps)?;
     let steps = Partitioned {
         machine: m,

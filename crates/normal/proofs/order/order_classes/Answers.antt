@@ -11,7 +11,7 @@ pub unwrap-size-requires : goal.unwrap-size-requires
 unwrap-size-requires g c =
     let m = c.args.m.now in
     let to = c.minimize.new in
-    all_listed (g.M.TreeAutomaton.letters m) (g.M.TreeAutomaton.meaning m) to.classes to.reps c.in_ok-count.count (g.met.M.TreeAutomaton.fit m c.requires.sound) c.in_ok-count.ensures.partition c.args.order.now c.explore.new.entries c.explore.new.firsts c.explore.result c.requires.order_long c.explore.ensures
+    all_listed (g.M.TreeAutomaton.letters m) (g.M.TreeAutomaton.meaning m) to.classes to.reps c.in_ok-count.count c.fit.ensures c.in_ok-count.ensures.partition c.args.order.now c.explore.new.entries c.explore.new.firsts c.explore.result c.requires.order_long c.explore.ensures
 
 pub returns : goal.returns
 returns g c =
@@ -27,5 +27,5 @@ returns g c =
       classed = least;
       few = lists.0;
       listed = lists.1;
-      normal = λ L for reachable. quotient_normal n A to.classes to.reps c.in_ok-count.count least (g.met.M.TreeAutomaton.fit m c.requires.sound).complete class_exact (take c.unwrap-size.result es) (first_at cells) lists.1 reachable L for;
+      normal = λ L for reachable. quotient_normal n A to.classes to.reps c.in_ok-count.count least c.fit.ensures.complete class_exact (take c.unwrap-size.result es) (first_at cells) lists.1 reachable L for;
     }
