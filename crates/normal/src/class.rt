@@ -1,7 +1,6 @@
 // Classes of states, and the steps between them.
 ghost use Rattle.std.specs.Prelude.{◌≡◌, ◌==◌};
 ghost use Rattle.std.proofs.Common.{rules};
-ghost use Rattle.std.proofs.lemmas.Grind.{common_steps};
 ghost use Rattle.normal.specs.Classes.{class_steps, rep_of};
 
 use explore::entry::Entry;

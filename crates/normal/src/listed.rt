@@ -1,6 +1,5 @@
 // An automaton by the list of all things that steps lead to: its states are their places.
 ghost use Rattle.std.specs.Prelude.{◌≡◌, ◌<◌, true, length};
-ghost use Rattle.std.proofs.Common.{rules};
 ghost use Rattle.explore.specs.Listing.{numbers_of};
 ghost use Rattle.explore.specs.Places.{place_of};
 ghost use Rattle.explore.specs.Rounds.{entry_at};
